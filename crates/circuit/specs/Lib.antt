@@ -1,0 +1,5 @@
+pub mod Gate
+pub mod Lines
+pub mod Stored
+pub mod Reading
+pub mod Writing

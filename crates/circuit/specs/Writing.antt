@@ -1,0 +1,50 @@
+-- What storing a circuit answers, and what it leaves in the lent room.
+use mathlib.Core.Path.{_≡_}
+use mathlib.Core.Bool.{cond}
+use mathlib.Core.List.{List, [], _∷_, _++_}
+use Prim.Native.Nat.{ℕ, _+_, _-_, _≤_}
+use lib.Dec.{leb}
+use lib.ListN.{length, take, drop, replicate}
+use Rattle.circuit.specs.declared.Circuit.{Circuit}
+use Rattle.circuit.specs.declared.Refusal.the-variants.{Shape, NoRoom}
+use Rattle.circuit.specs.declared.Writing.{Writing}
+use Rattle.circuit.specs.declared.Writing.the-variants.{Written, NotWritten}
+use Rattle.circuit.specs.Stored.{stored, listed}
+use Rattle.circuit.specs.Reading.{refusalNo, shaped}
+
+-- vs written over a list from `at` on
+abbrev pub over : List ℕ → ℕ → List ℕ → List ℕ
+over room at vs = take at room ++ vs ++ drop (at + length vs) room
+
+-- the number of an answer: 0 where the bytes were written
+abbrev pub writingNo : Writing → ℕ
+writingNo (Written k) = 0
+writingNo (NotWritten w) = refusalNo w
+
+-- how many bytes were written, or why none: a struct out of range holds no circuit (1); the room is too short (11)
+unfoldable pub writeAnswer : Circuit → ℕ → Writing
+writeAnswer c room =
+    let size = length (stored (listed c)) in
+    cond (shaped (c .n) (c .m) (c .g)) (cond (leb size room) (Written size) (NotWritten NoRoom)) (NotWritten Shape)
+
+-- the room afterwards: the bytes first and the rest as it was, or all as it was
+abbrev pub roomAfter : Writing → List ℕ → List ℕ → List ℕ
+roomAfter (Written k) bytes room = bytes ++ drop (length bytes) room
+roomAfter (NotWritten w) bytes room = room
+
+-- what `write` promises of its answer and of the room
+pub record Wrote (c : Circuit) (room : List ℕ) (r : Writing) (out : List ℕ) : Type 0 where
+  pub answer : r ≡ writeAnswer c (length room)
+  pub bytes : out ≡ roomAfter (writeAnswer c (length room)) (stored (listed c)) room
+
+-- an array of `cap` entries has zeros past the first g
+pub record Padded (l : List ℕ) (g cap : ℕ) : Type 0 where
+  pub fits : g ≤ length l
+  pub zeros : l ≡ take g l ++ replicate (cap - g) 0
+
+-- a struct that has zeros past its gates and outputs
+pub record Tidy (c : Circuit) : Type 0 where
+  pub kinds : Padded (c .kinds) (c .g) 248
+  pub left : Padded (c .left) (c .g) 248
+  pub right : Padded (c .right) (c .g) 248
+  pub outputs : Padded (c .outputs) (c .m) 32

@@ -1,0 +1,74 @@
+// Circuits: gates and lines, their stored form, and the numbers of the refusals.
+ghost use mathlib.Core.Path.{_≡_};
+ghost use Prim.Native.Nat.{_<_};
+
+pub mod gate; // gate.rt: one gate on whole words, its counts and what it reads
+pub mod reader; // reader.rt: stored bytes to a circuit
+pub mod writer; // writer.rt: a circuit to stored bytes in a lent room
+
+// A circuit by value: gate k is `kinds[k]`, `left[k]`, `right[k]`. Zeros past the last gate and output.
+pub struct Circuit {
+    pub n: usize,
+    pub m: usize,
+    pub g: usize,
+    pub kinds: [u8; 248],
+    pub left: [u8; 248],
+    pub right: [u8; 248],
+    pub outputs: [u8; 32],
+}
+
+// A line's values on 256 inputs: input value x at bit x % 64 of word x / 64.
+pub struct Words {
+    pub w0: u64,
+    pub w1: u64,
+    pub w2: u64,
+    pub w3: u64,
+}
+
+// How many gates are of XOR type, nonlinear, NOT.
+pub struct Tally {
+    pub xors: usize,
+    pub nonlinear: usize,
+    pub nots: usize,
+}
+
+// Why a call is refused; `refusalNo` gives the definition's number, 1 to 13 in this order.
+pub enum Refusal {
+    Shape,
+    Length,
+    Mark,
+    UnknownKind,
+    Operand,
+    NoLine,
+    NotXor,
+    Target,
+    TooDeep,
+    TooShallow,
+    NoRoom,
+    NotThere,
+    NothingOpen,
+}
+
+pub enum Answer {
+    Done,
+    Refused(Refusal),
+}
+
+// What reading gives: the circuit, or an empty one beside the refusal.
+pub struct Reading {
+    pub circuit: Circuit,
+    pub answer: Answer,
+}
+
+// What storing gives: how many bytes stand first in the room, or why none does.
+pub enum Writing {
+    Written(usize),
+    NotWritten(Refusal),
+}
+
+// A byte as an index.
+pub fn wide(x: u8) -> usize
+    ensures { λ r. ⌜ (r ≡ x) × (r < 256) ⌝ }
+{
+    x as usize
+}

@@ -1,0 +1,287 @@
+//! The bench against plain models: slow evaluation, brute-force verdicts, readers by closure,
+//! refusals in order, and refused calls that change nothing.
+
+mod common;
+
+use common::{random_circuit, random_gate, random_table};
+use reference::bench::Bench;
+use reference::circuit::{self, Circuit};
+use reference::examine::{examine, readers, slow_values, work, Limits, Target, Verdict};
+use reference::rng::Rng;
+
+fn limits(gates: u8, depth: u8, and_depth: u8) -> Limits {
+    Limits { gates, depth, and_depth }
+}
+
+fn random_limits(rng: &mut Rng) -> Limits {
+    limits(rng.below(40) as u8, rng.below(20) as u8, rng.below(8) as u8)
+}
+
+/// Depth and AND depth by following the operands back.
+fn slow_depths(circuit: &Circuit) -> Vec<(u8, u8)> {
+    let mut depths: Vec<(u8, u8)> = vec![(0, 0); circuit.n as usize];
+    for gate in &circuit.gates {
+        let mut deepest = depths[gate.a as usize];
+        if gate.kind != 6 {
+            let b = depths[gate.b as usize];
+            deepest = (deepest.0.max(b.0), deepest.1.max(b.1));
+        }
+        depths.push((deepest.0 + 1, deepest.1 + matches!(gate.kind, 2..=5) as u8));
+    }
+    depths
+}
+
+/// What a target asks of output j on input x.
+fn asked(target: &Target, x: usize, j: usize) -> bool {
+    match target {
+        Target::Matrix(rows) => (rows[j] as usize & x).count_ones() % 2 == 1,
+        Target::Table(entries) => entries[x] >> j & 1 == 1,
+    }
+}
+
+fn slow_verdict(circuit: &Circuit, target: &Target, limits: &Limits) -> Verdict {
+    for x in 0..1usize << circuit.n {
+        let values = slow_values(circuit, x);
+        for (j, &line) in circuit.outs.iter().enumerate() {
+            if values[line as usize] != asked(target, x, j) {
+                return Verdict::Wrong { input: x as u8, output: j as u8 };
+            }
+        }
+    }
+    let depths = slow_depths(circuit);
+    if circuit.gates.len() > limits.gates as usize {
+        Verdict::OverGates
+    } else if depths.iter().any(|depth| depth.0 > limits.depth) {
+        Verdict::OverDepth
+    } else if depths.iter().any(|depth| depth.1 > limits.and_depth) {
+        Verdict::OverAndDepth
+    } else {
+        Verdict::Pass
+    }
+}
+
+/// The target that the circuit meets, so that limits come into play.
+fn met_table(circuit: &Circuit) -> Target {
+    let entry = |x| {
+        let values = slow_values(circuit, x);
+        circuit.outs.iter().enumerate().map(|(j, &line)| (values[line as usize] as u8) << j).sum()
+    };
+    Target::Table((0..1usize << circuit.n).map(entry).collect())
+}
+
+#[test]
+fn lines_agree_with_slow_evaluation() {
+    let mut rng = Rng::new(10);
+    for round in 0..300 {
+        let (n, g) = (rng.between(1, 8), if round == 0 { 248 } else { rng.below(60) });
+        let circuit = random_circuit(&mut rng, n, 1, g, false);
+        let lines = work(&circuit);
+        for x in 0..1usize << n {
+            let slow = slow_values(&circuit, x);
+            assert!((0..circuit.lines()).all(|line| lines.value(line, x) == slow[line]));
+        }
+        for x in 1usize << n..256 {
+            assert!((0..circuit.lines()).all(|line| !lines.value(line, x)));
+        }
+        let depths: Vec<(u8, u8)> =
+            lines.depths.iter().copied().zip(lines.and_depths.iter().copied()).collect();
+        assert_eq!(depths, slow_depths(&circuit));
+    }
+}
+
+#[test]
+fn verdicts_agree_with_brute_force() {
+    let mut rng = Rng::new(11);
+    let mut seen = [0; 5];
+    for _ in 0..4000 {
+        let (n, m, g) = (rng.between(1, 6), rng.between(1, 8), rng.below(30));
+        let circuit = random_circuit(&mut rng, n, m, g, false);
+        let mut target = if rng.once_in(8) { random_table(&mut rng, n, m) } else { met_table(&circuit) };
+        if let (Target::Table(entries), true) = (&mut target, rng.once_in(3)) {
+            entries[rng.below(1 << n) as usize] ^= 1 << rng.below(m);
+        }
+        let limits = random_limits(&mut rng);
+        let report = examine(&circuit, &target, &limits);
+        assert_eq!(report.verdict, slow_verdict(&circuit, &target, &limits));
+        let counts = [0u8..=1, 2..=5, 6..=6]
+            .map(|kinds| circuit.gates.iter().filter(|gate| kinds.contains(&gate.kind)).count() as u8);
+        assert_eq!([report.xors, report.nonlinear, report.nots], counts);
+        assert_eq!(report.gates as usize, circuit.gates.len());
+        seen[match report.verdict {
+            Verdict::Wrong { .. } => 0,
+            Verdict::OverGates => 1,
+            Verdict::OverDepth => 2,
+            Verdict::OverAndDepth => 3,
+            Verdict::Pass => 4,
+        }] += 1;
+    }
+    assert!(seen.iter().all(|&times| times > 20), "{seen:?}");
+}
+
+#[test]
+fn matrix_verdicts_agree_with_brute_force() {
+    let mut rng = Rng::new(12);
+    for _ in 0..1000 {
+        let (n, m) = (rng.between(1, 8), rng.between(1, 32));
+        let mut circuit = reference::builder::build(n, &rng.rows(n, m), 15).unwrap();
+        let rows = circuit.outs.iter().map(|&line| masks(&circuit)[line as usize]).collect();
+        let target = Target::Matrix(rows);
+        if rng.once_in(2) {
+            circuit.outs[rng.below(m) as usize] = rng.below(circuit.lines() as u64) as u8;
+        }
+        let limits = limits(rng.below(90) as u8, rng.below(12) as u8, 0);
+        assert_eq!(examine(&circuit, &target, &limits).verdict, slow_verdict(&circuit, &target, &limits));
+    }
+}
+
+/// The inputs summed into each line of an XOR program.
+fn masks(circuit: &Circuit) -> Vec<u8> {
+    let mut masks: Vec<u8> = (0..circuit.n).map(|i| 1 << i).collect();
+    for gate in &circuit.gates {
+        masks.push(masks[gate.a as usize] ^ masks[gate.b as usize]);
+    }
+    masks
+}
+
+/// Readers by repeating the direct step until nothing is added.
+fn slow_readers(circuit: &Circuit, k: usize) -> Vec<usize> {
+    let n = circuit.n as usize;
+    let mut set = std::collections::BTreeSet::from([n + k]);
+    loop {
+        let before = set.len();
+        for (at, gate) in circuit.gates.iter().enumerate() {
+            let reads_b = gate.kind != 6 && set.contains(&(gate.b as usize));
+            if set.contains(&(gate.a as usize)) || reads_b {
+                set.insert(n + at);
+            }
+        }
+        if set.len() == before {
+            return set.into_iter().collect();
+        }
+    }
+}
+
+#[test]
+fn edits_rework_the_readers_and_nothing_else_changes() {
+    let mut rng = Rng::new(13);
+    for _ in 0..400 {
+        let (n, m, g) = (rng.between(1, 8), rng.between(1, 8), rng.between(1, 60));
+        let mut model = random_circuit(&mut rng, n, m, g, false);
+        let target = random_table(&mut rng, n, m);
+        let mut bench = Bench::new();
+        bench.open(&circuit::write(&model), target.clone(), limits(9, 9, 9)).unwrap();
+        for _ in 0..10 {
+            let k = rng.below(g) as usize;
+            let gate = random_gate(&mut rng, n + k as u64, false);
+            let before = work(&model);
+            model.gates[k] = gate;
+            let lines = bench.replace_gate(k as u64, gate.kind.into(), gate.a.into(), gate.b.into()).unwrap();
+            assert_eq!(lines, slow_readers(&model, k));
+            assert_eq!(lines, readers(&model, k));
+            let after = bench.held().unwrap();
+            assert_eq!(after, work(&model));
+            let kept = (0..model.lines()).filter(|line| !lines.contains(line));
+            assert!(kept.clone().all(|line| before.values[line] == after.values[line]));
+            assert!(kept.clone().all(|line| before.depths[line] == after.depths[line]));
+        }
+        assert_eq!(bench.present, Some((model, target, limits(9, 9, 9))));
+    }
+}
+
+#[test]
+fn a_not_reads_only_its_first_operand() {
+    // The stored 0 of a NOT is no reading of line 0; here gate 0 is line 1.
+    let stored = b"SH\x01\x01\x03GT\x06\x00\x00GT\x06\x00\x00GT\x06\x01\x00OP\x03";
+    let mut bench = Bench::new();
+    bench.open(stored, Target::Table(vec![0, 1]), limits(3, 3, 0)).unwrap();
+    assert_eq!(bench.replace_gate(0, 6, 0, 0), Ok(vec![1, 3]));
+    assert_eq!(bench.replace_gate(1, 6, 1, 0), Ok(vec![2]));
+    assert_eq!(bench.held().unwrap().depths, [0, 1, 2, 2]);
+}
+
+#[test]
+fn nothing_open_is_refused_13() {
+    let mut empty = Bench::new();
+    let big = u64::MAX;
+    assert_eq!(empty.report(), Err(13));
+    assert_eq!(empty.held(), Err(13));
+    assert_eq!(empty.replace_gate(big, big, big, big), Err(13));
+    assert_eq!(empty.point_output(big, big), Err(13));
+    assert_eq!(empty.change_entry(big, big), Err(13));
+    assert_eq!(empty.set_limits(limits(0, 0, 0)), Err(13));
+    assert_eq!(empty.store(&mut []), Err(13));
+    assert_eq!(empty, Bench::new());
+}
+
+const PAIR: &[u8] = b"SH\x02\x01\x01GT\x00\x00\x01OP\x02";
+
+/// One XOR gate under a matrix of one row.
+fn pair_bench() -> Bench {
+    let mut bench = Bench::new();
+    bench.open(PAIR, Target::Matrix(vec![3]), limits(1, 1, 0)).unwrap();
+    bench
+}
+
+#[test]
+fn refused_gates_come_in_order_and_change_nothing() {
+    let (mut bench, before, big) = (pair_bench(), pair_bench(), u64::MAX);
+    for (k, kind, a, b) in [(1, 9, 9, 9), (big, 9, 9, 9)] {
+        assert_eq!(bench.replace_gate(k, kind, a, b), Err(12));
+    }
+    for (kind, a, b) in [(7, 9, 9), (big, 9, 9), (256, 0, 1)] {
+        assert_eq!(bench.replace_gate(0, kind, a, b), Err(4));
+    }
+    for (kind, a, b) in [(2, 2, 0), (2, 0, 2), (2, big, 0), (6, 0, 1), (2, 256, 1), (0, 0, 256)] {
+        assert_eq!(bench.replace_gate(0, kind, a, b), Err(5));
+    }
+    for (kind, a, b) in [(6, 0, 0), (1, 0, 1)] {
+        assert_eq!(bench.replace_gate(0, kind, a, b), Err(7));
+    }
+    assert_eq!(bench, before);
+}
+
+#[test]
+fn other_refusals_come_in_order_and_change_nothing() {
+    let (mut bench, before, big) = (pair_bench(), pair_bench(), u64::MAX);
+    for (j, line, number) in [(1, 9, 12), (big, 0, 12), (0, 3, 6), (0, 256, 6), (0, big, 6)] {
+        assert_eq!(bench.point_output(j, line), Err(number));
+    }
+    for (i, value, number) in [(1, 0, 12), (big, 0, 12), (0, 0, 8), (0, 4, 8), (0, 257, 8), (0, big, 8)] {
+        assert_eq!(bench.change_entry(i, value), Err(number));
+    }
+    let mut short = [5; 12];
+    assert_eq!(bench.store(&mut short), Err(11));
+    assert_eq!(short, [5; 12]);
+    for rows in [vec![], vec![3, 3], vec![0], vec![4]] {
+        assert_eq!(bench.open(PAIR, Target::Matrix(rows), limits(9, 9, 9)), Err(8));
+    }
+    for table in [vec![], vec![0; 3], vec![0; 5], vec![0, 0, 2, 0]] {
+        assert_eq!(bench.open(PAIR, Target::Table(table), limits(9, 9, 9)), Err(8));
+    }
+    assert_eq!(bench.open(&PAIR[..12], Target::Matrix(vec![]), limits(9, 9, 9)), Err(2));
+    assert_eq!(bench.store(&mut [0; 13]), Ok(13));
+    assert_eq!(bench, before);
+}
+
+#[test]
+fn accepted_edits_are_applied_in_order() {
+    let mut bench = Bench::new();
+    bench
+        .open(b"SH\x02\x01\x01GT\x02\x00\x01OP\x02", Target::Table(vec![0, 0, 0, 1]), limits(1, 1, 1))
+        .unwrap();
+    assert_eq!(bench.set_limits(limits(0, 0, 0)), Ok(vec![]));
+    assert_eq!(bench.report().unwrap().verdict, Verdict::OverGates);
+    assert_eq!(bench.set_limits(limits(1, 0, 0)), Ok(vec![]));
+    assert_eq!(bench.report().unwrap().verdict, Verdict::OverDepth);
+    assert_eq!(bench.set_limits(limits(1, 1, 0)), Ok(vec![]));
+    assert_eq!(bench.report().unwrap().verdict, Verdict::OverAndDepth);
+    assert_eq!(bench.set_limits(limits(255, 255, 255)), Ok(vec![]));
+    assert_eq!(bench.report().unwrap().verdict, Verdict::Pass);
+    assert_eq!(bench.point_output(0, 1), Ok(vec![]));
+    assert_eq!(bench.report().unwrap().verdict, Verdict::Wrong { input: 2, output: 0 });
+    assert_eq!(bench.change_entry(2, 1), Ok(vec![]));
+    assert_eq!(bench.report().unwrap().verdict, Verdict::Pass);
+    let mut room = [0; 13];
+    assert_eq!(bench.store(&mut room), Ok(13));
+    assert_eq!(&room, b"SH\x02\x01\x01GT\x02\x00\x01OP\x01");
+}

@@ -1,0 +1,192 @@
+//! The call language: its example, each call's answer, what is no call, and the two programs.
+
+use std::io::{BufRead, BufReader, Write};
+use std::process::{Command, Stdio};
+
+use reference::desk::run;
+
+const OPEN: &str = "open 534802010147540200014f5002 table 00000001 1 1 1\n";
+
+fn answers(input: &str) -> String {
+    String::from_utf8(run(input.as_bytes())).unwrap()
+}
+
+/// The answer to one line on a bench with the AND gate open.
+fn on_open(line: &str) -> String {
+    answers(&format!("{OPEN}{line}\n")).strip_prefix("opened\n").unwrap().to_string()
+}
+
+const EXAMPLE: &str = "gate 0 3 0 1\nreport\nentry 0 1\nreport\ngate 7 3 0 1\n";
+const EXAMPLE_ANSWERS: &str = "opened\n\
+    report gates 1 xor 0 nonlinear 1 not 0 depth 1 anddepth 1 pass\n\
+    reworked 1 2\n\
+    report gates 1 xor 0 nonlinear 1 not 0 depth 1 anddepth 1 wrong 0 0\n\
+    reworked 0\n\
+    report gates 1 xor 0 nonlinear 1 not 0 depth 1 anddepth 1 wrong 1 0\n\
+    refused 12\n";
+
+#[test]
+fn answers_the_example() {
+    assert_eq!(answers(&format!("{OPEN}report\n{EXAMPLE}")), EXAMPLE_ANSWERS);
+}
+
+#[test]
+fn shows_and_holds() {
+    assert_eq!(
+        on_open("gate 0 3 0 1\nshow"),
+        "reworked 1 2\ninputs 2 outputs 1 gates 1 depth 1 anddepth 1\nt0 = ~(x0 & x1)\ny0 = t0\nwrong 0 0\n"
+    );
+    assert_eq!(on_open("held"), "held 3 0:0:0:0a 1:0:0:0c 2:1:1:08\n");
+    assert_eq!(on_open("gate 0 3 0 1\nheld"), "reworked 1 2\nheld 3 0:0:0:0a 1:0:0:0c 2:1:1:07\n");
+    let kinds = "open 5348030107475400000147540100014754020001475403000147540400014754050001\
+                 47540608004f5000 table 0001000100010001 9 9 9\nshow\nheld\n";
+    assert_eq!(
+        answers(kinds),
+        "opened\ninputs 3 outputs 1 gates 7 depth 2 anddepth 1\nt0 = x0 ^ x1\nt1 = ~(x0 ^ x1)\n\
+         t2 = x0 & x1\nt3 = ~(x0 & x1)\nt4 = x0 | x1\nt5 = ~(x0 | x1)\nt6 = ~t5\ny0 = x0\npass\n\
+         held 10 0:0:0:aa 1:0:0:cc 2:0:0:f0 3:1:0:66 4:1:0:99 5:1:1:88 6:1:1:77 7:1:1:ee 8:1:1:11 9:2:1:ee\n"
+    );
+    let four = answers(
+        "open 534804010047540000014f5003 matrix 08 0 0 0\nopen 53480401004F5003 matrix 08 0 0 0\nheld\n",
+    );
+    assert_eq!(four, "refused 2\nopened\nheld 4 0:0:0:aaaa 1:0:0:cccc 2:0:0:f0f0 3:0:0:00ff\n");
+}
+
+#[test]
+fn stores_builds_and_measures() {
+    assert_eq!(on_open("store 13"), "stored 13 534802010147540200014f5002\n");
+    assert_eq!(on_open("store 18446744073709551615"), "stored 13 534802010147540200014f5002\n");
+    assert_eq!(on_open("store 12\nstore 0"), "refused 11\nrefused 11\n");
+    let built = "built 29 53480303034754000001475400020347540001024f50034f50044f5005\n";
+    assert_eq!(answers("build 3 030706 2 29\n"), built);
+    assert_eq!(answers("build 3 030706 2 18446744073709551615\n"), built);
+    assert_eq!(answers("build 3 030706 2 28\nbuild 3 030706 1 0\n"), "refused 11\nrefused 10\n");
+    assert_eq!(answers("build 300 030706 2 0\nbuild 3 - 2 0\n"), "refused 1\nrefused 1\n");
+    assert_eq!(answers("build 3 030800 300 0\nbuild 3 03 300 0\n"), "refused 8\nrefused 9\n");
+    let k6 = "distance 4 0102040807 0000000002 15";
+    assert_eq!(answers(&format!("{k6} 3\n{k6} 2\n{k6} 1\n")), "distance 1\ndistance 3\ndistance none\n");
+    let refusals =
+        "distance 300 - - 0 300\ndistance 4 - - 0 300\ndistance 4 01 00 300 300\ndistance 4 01 00 1 300\n";
+    assert_eq!(answers(refusals), "refused 1\nrefused 2\nrefused 8\nrefused 9\n");
+}
+
+#[test]
+fn large_numbers_are_refused_by_what_they_name() {
+    for (line, number) in [
+        ("gate 300 0 0 0", 12),
+        ("gate 0 300 0 0", 4),
+        ("gate 0 0 300 0", 5),
+        ("gate 0 0 0 300", 5),
+        ("output 0 300", 6),
+        ("output 300 0", 12),
+        ("entry 999 0", 12),
+        ("entry 0 999", 8),
+        ("gate 18446744073709551615 9 9 9", 12),
+        ("entry 0 18446744073709551615", 8),
+    ] {
+        assert_eq!(on_open(line), format!("refused {number}\n"), "{line}");
+    }
+}
+
+#[test]
+fn with_nothing_open() {
+    let calls = "report\ngate 0 0 0 0\noutput 0 0\nentry 0 0\nlimits 0 0 0\nstore 0\nheld\nshow\n";
+    assert_eq!(answers(calls), "refused 13\n".repeat(8));
+    assert_eq!(
+        answers(&format!("new\n{OPEN}new\n{calls}")),
+        format!("new\nopened\nnew\n{}", "refused 13\n".repeat(8))
+    );
+}
+
+fn all_unreadable(lines: &[&str]) {
+    for line in lines {
+        assert_eq!(on_open(line), "unreadable\n", "{line:?}");
+    }
+}
+
+#[test]
+fn unknown_words_and_counts_are_no_call() {
+    all_unreadable(&["Report", "report 1", "new x", "held 0", "show all", "-", "open", "store", "gate"]);
+    all_unreadable(&["gate 0 3 0", "gate 0 3 0 1 1", "output 0", "output 0 0 0", "entry 0", "limits 1 1"]);
+    all_unreadable(&["build 3 03 2", "build 3 03 2 29 1", "distance 4 01 00 1", "distance 4 01 00 1 1 1"]);
+    all_unreadable(&["open - matrix - 0 0", "open - Matrix - 0 0 0", "open 53 48 table - 0 0 0"]);
+    all_unreadable(&["\treport", "report\t", "report\r\r", "\rreport", " #"]);
+    assert_eq!(run(b"\xff\xfe\nreport\x00\n"), b"unreadable\nunreadable\n");
+}
+
+#[test]
+fn numbers_and_hex_that_are_none() {
+    all_unreadable(&["gate -1 3 0 1", "gate +0 3 0 1", "gate 0x0 3 0 1", "gate 18446744073709551616 3 0 1"]);
+    all_unreadable(&["limits 256 0 0", "limits 0 256 0", "limits 0 0 256", "open - matrix - 0 0 256"]);
+    all_unreadable(&[
+        "store -",
+        "store 1.0",
+        "distance 4 01 00 x 1",
+        "distance 4 01 0 1 1",
+        "build 3 03070 2 29",
+    ]);
+    all_unreadable(&["open 5 matrix - 0 0 0", "open 5g matrix - 0 0 0", "open -- matrix - 0 0 0"]);
+    assert_eq!(answers("limits 256 0 0\nopen - table - 0 0 256\n"), "unreadable\nunreadable\n");
+}
+
+#[test]
+fn an_unreadable_line_changes_nothing() {
+    let pass = "report gates 1 xor 0 nonlinear 1 not 0 depth 1 anddepth 1 pass\n";
+    assert_eq!(on_open("limits 256 0 0\ngate 0 3 0\nreport"), format!("unreadable\nunreadable\n{pass}"));
+}
+
+#[test]
+fn spaces_ends_of_line_and_remarks() {
+    assert_eq!(answers(""), "");
+    assert_eq!(answers("\n\n  \n\r\n# report\n#report\n#"), "");
+    assert_eq!(answers("  report  \r\nreport"), "refused 13\nrefused 13\n");
+    assert_eq!(on_open("gate   0 003  0 1"), "reworked 1 2\n");
+    assert_eq!(answers("open - table - 0 0 0\n"), "refused 2\n");
+    assert_eq!(answers("report\r"), "unreadable\n");
+}
+
+#[test]
+fn long_lines() {
+    let fill = |line: &str, length: usize| format!("{line}{}", " ".repeat(length - line.len()));
+    assert_eq!(answers(&fill("report", 65_535)), "refused 13\n");
+    assert_eq!(answers(&(fill("report", 65_535) + "\r\nnew\n")), "refused 13\nnew\n");
+    assert_eq!(answers(&(fill("report", 65_536) + "\nnew\n")), "unreadable\nnew\n");
+    assert_eq!(answers(&(fill("report", 65_536) + "\r\nnew\n")), "unreadable\nnew\n");
+    assert_eq!(answers(&(fill("#", 65_535) + "\nnew\n")), "new\n");
+    assert_eq!(answers(&(fill("#", 65_536) + "\nnew\n")), "unreadable\nnew\n");
+    assert_eq!(answers(&(fill("", 65_536) + "\nnew\n")), "unreadable\nnew\n");
+    assert_eq!(answers(&fill("report", 1_000_000)), "unreadable\n");
+}
+
+fn piped(program: &str, input: &[u8]) -> Vec<u8> {
+    let mut child = Command::new(program).stdin(Stdio::piped()).stdout(Stdio::piped()).spawn().unwrap();
+    child.stdin.take().unwrap().write_all(input).unwrap();
+    let output = child.wait_with_output().unwrap();
+    assert!(output.status.success());
+    output.stdout
+}
+
+#[test]
+fn the_programs_read_and_write() {
+    let desk = piped(env!("CARGO_BIN_EXE_desk"), format!("{OPEN}report\n{EXAMPLE}").as_bytes());
+    assert_eq!(desk, EXAMPLE_ANSWERS.as_bytes());
+    let build = env!("CARGO_BIN_EXE_build-program");
+    assert_eq!(piped(build, &[3, 3, 2, 3, 7, 6]), reference::program::run(&[3, 3, 2, 3, 7, 6]));
+    assert_eq!(piped(build, &[]), b"refused 2\n");
+}
+
+#[test]
+fn each_line_is_answered_as_it_comes() {
+    let program = env!("CARGO_BIN_EXE_desk");
+    let mut child = Command::new(program).stdin(Stdio::piped()).stdout(Stdio::piped()).spawn().unwrap();
+    let mut input = child.stdin.take().unwrap();
+    let mut output = BufReader::new(child.stdout.take().unwrap());
+    for (sent, answer) in [("new\nrep", "new\n"), ("ort\n#", "refused 13\n"), ("\nheld\n", "refused 13\n")] {
+        input.write_all(sent.as_bytes()).unwrap();
+        let mut line = String::new();
+        output.read_line(&mut line).unwrap();
+        assert_eq!(line, answer);
+    }
+    drop(input);
+    assert!(child.wait().unwrap().success());
+}
