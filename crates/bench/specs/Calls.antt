@@ -1,0 +1,197 @@
+-- The calls as functions on what is present: what each answers, what is present after it, and what the code promises of it.
+use mathlib.Core.Path.{_≡_}
+use mathlib.Core.Bool.{Bool, true, false, cond}
+use mathlib.Core.List.{List, [], _∷_, _++_}
+use Prim.Native.Nat.{ℕ, zero, suc, _+_, _-_, _^_}
+use lib.Dec.{leb, ltb}
+use lib.ListN.{length, getD, set, drop, replicate}
+use Rattle.circuit.specs.declared.Refusal.{Refusal}
+use Rattle.circuit.specs.declared.Refusal.the-variants.{Target as BadTarget, NoRoom, NotThere, NothingOpen}
+use Rattle.circuit.specs.declared.Answer.{Answer}
+use Rattle.circuit.specs.declared.Answer.the-variants.{Done, Refused}
+use Rattle.circuit.specs.declared.Writing.{Writing}
+use Rattle.circuit.specs.declared.Writing.the-variants.{Written, NotWritten}
+use Rattle.circuit.specs.Lines.{Gate, Listing, gateAt, reached}
+use Rattle.circuit.specs.Stored.{stored, listingIn}
+use Rattle.circuit.specs.Reading.{unless, andThen, gateAnswer, outAnswer, readAnswer}
+use Rattle.circuit.specs.Writing.{roomAfter}
+use Rattle.bench.specs.declared.Bench.{Bench}
+use Rattle.bench.specs.declared.Edit.{Edit}
+use Rattle.bench.specs.declared.Reported.{Reported}
+use Rattle.bench.specs.declared.Reported.the-variants.{Given, NotGiven}
+use Rattle.bench.specs.Target.{Target, matrix, table, isMatrix, rowFits, entryFits, targetFits}
+use Rattle.bench.specs.State.{Limits, State, Present, nothing, present, reportOf}
+use Rattle.bench.specs.Held.{padded, benchOf, Stands}
+
+-- what is present after a call that gives the state s: a refused call leaves what was present
+abbrev pub after : Answer → State → Present → Present
+after Done s p = present s
+after (Refused w) s p = p
+
+-- ---- open
+
+-- the refusals of an open: as the reader, then the target (8)
+unfoldable pub openAnswer : List ℕ → Target → Answer
+openAnswer bytes t =
+    let c = listingIn bytes in
+    andThen (readAnswer (isMatrix t) bytes) (unless (targetFits (c .inputs) (length (c .outs)) t) BadTarget Done)
+
+-- the state that an open brings
+abbrev pub openState : List ℕ → Target → Limits → State
+openState bytes t l = record { circuit = listingIn bytes; target = t; limits = l }
+
+-- what is present after an open: a new open replaces everything, a refused one keeps what was there
+abbrev pub afterOpen : Present → List ℕ → Target → Limits → Present
+afterOpen p bytes t l = after (openAnswer bytes t) (openState bytes t l) p
+
+-- ---- edits
+
+-- replacing gate k: nothing open (13), no such gate (12), then kind (4), operands (5), XOR only (7)
+unfoldable pub gateEditAnswer : Present → ℕ → ℕ → ℕ → ℕ → Answer
+gateEditAnswer nothing k kind a b = Refused NothingOpen
+gateEditAnswer (present s) k kind a b =
+    unless (ltb k (length (s .circuit .gates))) NotThere (gateAnswer (isMatrix (s .target)) (s .circuit .inputs + k) kind a b)
+
+-- the circuit with gate k replaced
+abbrev pub withGate : Listing → ℕ → Gate → Listing
+withGate c k q = record { inputs = c .inputs; gates = set (c .gates) k q; outs = c .outs }
+
+-- the state with gate k replaced
+abbrev pub gateEdited : State → ℕ → ℕ → ℕ → ℕ → State
+gateEdited s k kind a b =
+    record { circuit = withGate (s .circuit) k (record { kind = kind; left = a; right = b }); target = s .target; limits = s .limits }
+
+abbrev pub afterGate : Present → ℕ → ℕ → ℕ → ℕ → Present
+afterGate nothing k kind a b = nothing
+afterGate (present s) k kind a b = after (gateEditAnswer (present s) k kind a b) (gateEdited s k kind a b) (present s)
+
+-- pointing output j at a line: nothing open (13), no such output (12), no such line (6)
+unfoldable pub outputEditAnswer : Present → ℕ → ℕ → Answer
+outputEditAnswer nothing j line = Refused NothingOpen
+outputEditAnswer (present s) j line =
+    unless (ltb j (length (s .circuit .outs))) NotThere (outAnswer (s .circuit .inputs + length (s .circuit .gates)) line)
+
+-- the state with output j pointed at a line
+abbrev pub outputEdited : State → ℕ → ℕ → State
+outputEdited s j line =
+    record {
+      circuit = record { inputs = s .circuit .inputs; gates = s .circuit .gates; outs = set (s .circuit .outs) j line };
+      target = s .target;
+      limits = s .limits;
+    }
+
+abbrev pub afterOutput : Present → ℕ → ℕ → Present
+afterOutput nothing j line = nothing
+afterOutput (present s) j line = after (outputEditAnswer (present s) j line) (outputEdited s j line) (present s)
+
+-- changing entry i of the target: no such row or entry (12), then its rule (8)
+abbrev pub entryAnswer : Listing → Target → ℕ → ℕ → Answer
+entryAnswer c (matrix rows) i value = unless (ltb i (length (c .outs))) NotThere (unless (rowFits (c .inputs) value) BadTarget Done)
+entryAnswer c (table entries) i value = unless (ltb i (2 ^ c .inputs)) NotThere (unless (entryFits (length (c .outs)) value) BadTarget Done)
+
+unfoldable pub entryEditAnswer : Present → ℕ → ℕ → Answer
+entryEditAnswer nothing i value = Refused NothingOpen
+entryEditAnswer (present s) i value = entryAnswer (s .circuit) (s .target) i value
+
+-- the target with entry i changed
+abbrev pub withEntry : Target → ℕ → ℕ → Target
+withEntry (matrix rows) i value = matrix (set rows i value)
+withEntry (table entries) i value = table (set entries i value)
+
+abbrev pub entryEdited : State → ℕ → ℕ → State
+entryEdited s i value = record { circuit = s .circuit; target = withEntry (s .target) i value; limits = s .limits }
+
+abbrev pub afterEntry : Present → ℕ → ℕ → Present
+afterEntry nothing i value = nothing
+afterEntry (present s) i value = after (entryEditAnswer (present s) i value) (entryEdited s i value) (present s)
+
+-- setting the limits: nothing open (13)
+abbrev pub limitsAnswer : Present → Answer
+limitsAnswer nothing = Refused NothingOpen
+limitsAnswer (present s) = Done
+
+abbrev pub afterLimits : Present → Limits → Present
+afterLimits nothing l = nothing
+afterLimits (present s) l = present (record { circuit = s .circuit; target = s .target; limits = l })
+
+-- ---- what an edit answers
+
+-- the numbers, from i on, of the places that are marked, in ascending order
+unfoldable pub placesFrom : ℕ → List Bool → List ℕ
+placesFrom i [] = []
+placesFrom i (x ∷ xs) = let r = placesFrom (suc i) xs in cond x (i ∷ r) r
+
+-- how many places are marked: the size of the set
+unfoldable pub sizeOf : List Bool → ℕ
+sizeOf [] = 0
+sizeOf (x ∷ xs) = let r = sizeOf xs in cond x (suc r) r
+
+-- the set of lines that replacing gate k reworks: its own line, and each that reads it, directly or through others
+abbrev pub readersOf : Listing → ℕ → List Bool
+readersOf c k = reached k (c .inputs) (gateAt c) (length (c .gates))
+
+-- an edit's answer with a set of reworked lines
+abbrev pub reworking : List Bool → Edit
+reworking marks = record { answer = Done; lines = padded (placesFrom 0 marks) 256 0; count = sizeOf marks }
+
+-- an edit's answer with none, as a refusal has
+abbrev pub noRework : Answer → Edit
+noRework a = record { answer = a; lines = replicate 256 0; count = 0 }
+
+abbrev pub editBy : Answer → List Bool → Edit
+editBy Done marks = reworking marks
+editBy (Refused w) marks = noRework (Refused w)
+
+-- what replacing a gate answers
+abbrev pub gateEdit : Present → ℕ → ℕ → ℕ → ℕ → Edit
+gateEdit nothing k kind a b = noRework (Refused NothingOpen)
+gateEdit (present s) k kind a b = editBy (gateEditAnswer (present s) k kind a b) (readersOf (s .circuit) k)
+
+-- ---- report and store
+
+-- what a report answers
+abbrev pub reported : Present → Reported
+reported nothing = NotGiven NothingOpen
+reported (present s) = Given (reportOf s)
+
+-- what storing answers, for a room so long: nothing open (13), room too short (11)
+unfoldable pub storeAnswer : Present → ℕ → Writing
+storeAnswer nothing room = NotWritten NothingOpen
+storeAnswer (present s) room =
+    let size = length (stored (s .circuit)) in
+    cond (leb size room) (Written size) (NotWritten NoRoom)
+
+-- the bytes that are stored
+abbrev pub storedOf : Present → List ℕ
+storedOf nothing = []
+storedOf (present s) = stored (s .circuit)
+
+-- ---- what the functions promise: on a bench that stands for p
+
+-- of an open: its answer, and the bench after it
+abbrev pub OpenPromise : Bench → List ℕ → Target → Limits → Answer → Bench → Type 0
+OpenPromise b bytes t l answer next = (p : Present) → Stands b p → (answer ≡ openAnswer bytes t) × (next ≡ benchOf (afterOpen p bytes t l))
+
+-- of replacing a gate
+abbrev pub GatePromise : Bench → ℕ → ℕ → ℕ → ℕ → Edit → Bench → Type 0
+GatePromise b k kind x y edit next = (p : Present) → Stands b p → (edit ≡ gateEdit p k kind x y) × (next ≡ benchOf (afterGate p k kind x y))
+
+-- of pointing an output
+abbrev pub OutputPromise : Bench → ℕ → ℕ → Edit → Bench → Type 0
+OutputPromise b j line edit next = (p : Present) → Stands b p → (edit ≡ noRework (outputEditAnswer p j line)) × (next ≡ benchOf (afterOutput p j line))
+
+-- of changing an entry
+abbrev pub EntryPromise : Bench → ℕ → ℕ → Edit → Bench → Type 0
+EntryPromise b i value edit next = (p : Present) → Stands b p → (edit ≡ noRework (entryEditAnswer p i value)) × (next ≡ benchOf (afterEntry p i value))
+
+-- of setting the limits
+abbrev pub LimitsPromise : Bench → Limits → Edit → Bench → Type 0
+LimitsPromise b l edit next = (p : Present) → Stands b p → (edit ≡ noRework (limitsAnswer p)) × (next ≡ benchOf (afterLimits p l))
+
+-- of a report
+abbrev pub ReportPromise : Bench → Reported → Type 0
+ReportPromise b r = (p : Present) → Stands b p → r ≡ reported p
+
+-- of storing: its answer, and each byte of the room
+abbrev pub StorePromise : Bench → List ℕ → Writing → List ℕ → Type 0
+StorePromise b room r out = (p : Present) → Stands b p → (r ≡ storeAnswer p (length room)) × (out ≡ roomAfter (storeAnswer p (length room)) (storedOf p) room)

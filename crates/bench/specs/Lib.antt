@@ -1,0 +1,4 @@
+pub mod Target
+pub mod State
+pub mod Held
+pub mod Calls

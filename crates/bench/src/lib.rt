@@ -1,0 +1,69 @@
+// The bench by value: one circuit, one target and three limits, with what is held for each line.
+use circuit::{Answer, Refusal, Tally, Words};
+
+// What stands on the bench. Gate k is `kinds[k]`, `left[k]`, `right[k]`; a line's entry in `depths`, `and_depths` and
+// `values` has the line's number; `wanted` has for each output the values that the target wants. Zeros past the last.
+pub struct Bench {
+    pub is_open: bool,
+    pub is_matrix: bool,
+    pub n: usize,
+    pub m: usize,
+    pub g: usize,
+    pub max_gates: u8,
+    pub max_depth: u8,
+    pub max_and_depth: u8,
+    pub kinds: [u8; 248],
+    pub left: [u8; 248],
+    pub right: [u8; 248],
+    pub outputs: [u8; 32],
+    pub target: [u8; 256],
+    pub wanted: [Words; 32],
+    pub depths: [u8; 256],
+    pub and_depths: [u8; 256],
+    pub values: [Words; 256],
+}
+
+// Where a circuit is wrong: the smallest input value with a differing output, and the smallest such output there.
+pub struct Place {
+    pub input: usize,
+    pub output: usize,
+}
+
+// The first that applies.
+pub enum Verdict {
+    Wrong(Place),
+    OverGates,
+    OverDepth,
+    OverAndDepth,
+    Pass,
+}
+
+pub struct Report {
+    pub gates: usize,
+    pub counts: Tally,
+    pub depth: u8,
+    pub and_depth: u8,
+    pub verdict: Verdict,
+}
+
+pub enum Reported {
+    Given(Report),
+    NotGiven(Refusal),
+}
+
+// What an edit answers: whether it was accepted, the lines that it reworked in ascending order, and how many.
+pub struct Edit {
+    pub answer: Answer,
+    pub lines: [u8; 256],
+    pub count: usize,
+}
+
+pub struct Edited {
+    pub bench: Bench,
+    pub edit: Edit,
+}
+
+pub struct Opened {
+    pub bench: Bench,
+    pub answer: Answer,
+}
