@@ -1,5 +1,8 @@
 // The bench by value: one circuit, one target and three limits, with what is held for each line.
-use circuit::{Answer, Refusal, Tally, Words};
+use circuit::Answer;
+use circuit::Refusal;
+use circuit::Tally;
+use circuit::Words;
 
 // What stands on the bench. Gate k is `kinds[k]`, `left[k]`, `right[k]`; a line's entry in `depths`, `and_depths` and
 // `values` has the line's number; `wanted` has for each output the values that the target wants. Zeros past the last.

@@ -46,6 +46,10 @@ shape-is n m g h =
     let d = both (leb m 32) (c .1) in
     record { n1 = leb-true 1 n (a .0); n8 = leb-true n 8 (b .0); m1 = leb-true 1 m (c .0); m32 = leb-true m 32 (d .0); g248 = leb-true g 248 (d .1) }
 
+pub shape-true : (n m g : ℕ) → Shaped n m g → shaped n m g ≡ true
+unfolding shaped
+shape-true n m g s = simp (le-leb 1 n (s .n1), le-leb n 8 (s .n8), le-leb 1 m (s .m1), le-leb m 32 (s .m32), le-leb g 248 (s .g248))
+
 module _ (only : Bool) (s : List ℕ) (n m g : ℕ) where
   pub no-shape : shaped n m g ≡ false → Refused Shape ≡ bodyAnswer only s n m g
   unfolding bodyAnswer

@@ -10,5 +10,6 @@ pub mod Round
 pub mod Over
 pub mod Written
 pub mod Back
+pub mod Restoring
 pub mod Examples
 pub mod Unique

@@ -1,16 +1,18 @@
 -- What storing a circuit answers, and what it leaves in the lent room.
 use mathlib.Core.Path.{_≡_}
-use mathlib.Core.Bool.{cond}
+use mathlib.Core.Bool.{Bool, cond}
 use mathlib.Core.List.{List, [], _∷_, _++_}
-use Prim.Native.Nat.{ℕ, _+_, _-_, _≤_}
+use Prim.Native.Nat.{ℕ, _+_, _-_, _*_, _≤_}
 use lib.Dec.{leb}
 use lib.ListN.{length, take, drop, replicate}
 use Rattle.circuit.specs.declared.Circuit.{Circuit}
 use Rattle.circuit.specs.declared.Refusal.the-variants.{Shape, NoRoom}
+use Rattle.circuit.specs.declared.Answer.{Answer}
+use Rattle.circuit.specs.declared.Answer.the-variants.{Done, Refused}
 use Rattle.circuit.specs.declared.Writing.{Writing}
 use Rattle.circuit.specs.declared.Writing.the-variants.{Written, NotWritten}
 use Rattle.circuit.specs.Stored.{stored, listed}
-use Rattle.circuit.specs.Reading.{refusalNo, shaped}
+use Rattle.circuit.specs.Reading.{refusalNo, shaped, readAnswer}
 
 -- vs written over a list from `at` on
 abbrev pub over : List ℕ → ℕ → List ℕ → List ℕ
@@ -36,6 +38,24 @@ roomAfter (NotWritten w) bytes room = room
 pub record Wrote (c : Circuit) (room : List ℕ) (r : Writing) (out : List ℕ) : Type 0 where
   pub answer : r ≡ writeAnswer c (length room)
   pub bytes : out ≡ roomAfter (writeAnswer c (length room)) (stored (listed c)) room
+
+-- an answer as one number, for other languages: how many bytes, or 65,536 times the refusal's number
+abbrev pub writingCode : Writing → ℕ
+writingCode (Written k) = k
+writingCode (NotWritten w) = 65536 * refusalNo w
+
+-- what reading some bytes and storing the circuit again answers, for a room so long
+abbrev pub restoring : Answer → ℕ → ℕ → Writing
+restoring Done size room = cond (leb size room) (Written size) (NotWritten NoRoom)
+restoring (Refused w) size room = NotWritten w
+
+abbrev pub restoreAnswer : Bool → List ℕ → ℕ → Writing
+restoreAnswer only s room = restoring (readAnswer only s) (length s) room
+
+-- what `allpawasi_restore` promises: an accepted circuit's bytes come out as they went in
+pub record Restored (only : Bool) (s room : List ℕ) (r : ℕ) (out : List ℕ) : Type 0 where
+  pub answer : r ≡ writingCode (restoreAnswer only s (length room))
+  pub bytes : out ≡ roomAfter (restoreAnswer only s (length room)) s room
 
 -- an array of `cap` entries has zeros past the first g
 pub record Padded (l : List ℕ) (g cap : ℕ) : Type 0 where

@@ -1,10 +1,12 @@
 // Circuits: gates and lines, their stored form, and the numbers of the refusals.
 ghost use mathlib.Core.Path.{_≡_};
 ghost use Prim.Native.Nat.{_<_};
+ghost use Rattle.circuit.specs.Reading.{refusalNo};
 
 pub mod gate; // gate.rt: one gate on whole words, its counts and what it reads
 pub mod reader; // reader.rt: stored bytes to a circuit
 pub mod writer; // writer.rt: a circuit to stored bytes in a lent room
+pub mod restore; // restore.rt: both in one call, for other languages
 
 // A circuit by value: gate k is `kinds[k]`, `left[k]`, `right[k]`. Zeros past the last gate and output.
 pub struct Circuit {
@@ -71,4 +73,25 @@ pub fn wide(x: u8) -> usize
     ensures { λ r. ⌜ (r ≡ x) × (r < 256) ⌝ }
 {
     x as usize
+}
+
+// The definition's number of a refusal.
+pub fn refusal_no(why: Refusal) -> usize
+    ensures { λ r. ⌜ (r ≡ refusalNo why) × (r < 256) ⌝ }
+{
+    match why {
+        Refusal::Shape => 1,
+        Refusal::Length => 2,
+        Refusal::Mark => 3,
+        Refusal::UnknownKind => 4,
+        Refusal::Operand => 5,
+        Refusal::NoLine => 6,
+        Refusal::NotXor => 7,
+        Refusal::Target => 8,
+        Refusal::TooDeep => 9,
+        Refusal::TooShallow => 10,
+        Refusal::NoRoom => 11,
+        Refusal::NotThere => 12,
+        Refusal::NothingOpen => 13,
+    }
 }

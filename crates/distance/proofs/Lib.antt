@@ -1,0 +1,17 @@
+pub mod Theorems
+pub mod Examples
+pub mod Tests
+pub mod Xor
+pub mod Lower
+pub mod Upper
+pub mod Bound
+pub mod Fewest
+pub mod Least
+pub mod Weight
+pub mod Search
+pub mod Sizes
+pub mod Entries
+pub mod Refuse
+pub mod Sound
+pub mod Unique
+pub mod First

@@ -1,0 +1,4 @@
+pub mod Base
+pub mod Distance
+pub mod Table
+pub mod Query
