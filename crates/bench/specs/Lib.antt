@@ -2,3 +2,5 @@ pub mod Target
 pub mod State
 pub mod Held
 pub mod Calls
+pub mod Parts
+pub mod Run

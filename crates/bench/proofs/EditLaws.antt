@@ -1,0 +1,190 @@
+-- What pointing an output and setting the limits leave, from what was looked at first. Assumes nothing.
+use mathlib.Core.Path.{_≡_, refl, ap, _∙_, sym}
+use mathlib.Core.Bool.{Bool, true, false, cond}
+use mathlib.Core.List.{List, _++_}
+use Prim.Native.Nat.{ℕ, _<_, _≤_, _-_, _+_}
+use native.Mathlib.Omega.{arith}
+use lib.Dec.{ltb}
+use lib.ListN.{length, set, length-set}
+use borrow.Author.Tests.{ltb-true}
+use Rattle.circuit.specs.declared.Words.{Words}
+use Rattle.circuit.specs.declared.Answer.{Answer}
+use Rattle.circuit.specs.declared.Answer.the-variants.{Done, Refused}
+use Rattle.circuit.specs.declared.Refusal.{Refusal}
+use Rattle.circuit.specs.declared.Refusal.the-variants.{NotThere, NothingOpen}
+use Rattle.circuit.specs.Gate.{noWords}
+use Rattle.circuit.specs.Lines.{upto}
+use Rattle.circuit.specs.Reading.{unless, outAnswer}
+use Rattle.circuit.proofs.Accept.{Shaped, past}
+use Rattle.bench.specs.declared.Bench.{Bench}
+use Rattle.bench.specs.declared.Edit.{Edit}
+use Rattle.bench.specs.State.{State, Sound, SoundPresent, Limits, Present, nothing, present}
+use Rattle.bench.specs.Held.{padded, wantedWords, emptyBench, fullBench, benchOf, Stands}
+use Rattle.bench.specs.Calls.{after, noRework, outputEditAnswer, outputEdited, afterOutput, afterLimits, OutputPromise, LimitsPromise}
+use Rattle.bench.specs.Parts.{limits, standing, outputLook}
+use Rattle.bench.proofs.Standing.{full-standing, out-below}
+use Rattle.bench.proofs.Padding.{padded-set}
+use Rattle.bench.proofs.Stood.{openOn, standing-shaped, when-open, when-shut}
+
+-- ---- any edit that reworks no line, given by its answer, by what is present after it, and by what the code looks at
+module _ (answer : Present → Answer) (next : Present → Present) (look : Bench → Answer) (shut : answer nothing ≡ Refused NothingOpen)
+    (looked : (b : Bench) (p : Present) → Stands b p → look b ≡ answer p)
+    (kept : (p : Present) (w : Refusal) → answer p ≡ Refused w → next p ≡ p) where
+  abbrev pub Promise : Bench → Edit → Bench → Type 0
+  Promise b edit after = (p : Present) → Stands b p → (edit ≡ noRework (answer p)) × (after ≡ benchOf (next p))
+
+  -- a refused edit leaves the bench
+  pub edit-refused : (b : Bench) (w : Refusal) (edit : Edit) → look b ≡ Refused w → edit ≡ noRework (Refused w) → Promise b edit b
+  edit-refused b w edit h e p k =
+      let a : answer p ≡ Refused w = sym (looked b p k) ∙ h in
+      (e ∙ ap noRework (sym a), k .is ∙ ap benchOf (sym (kept p w a)))
+
+  -- an accepted one makes of the bench what f makes
+  pub edit-done : (f : Bench → Bench) → ((s : State) → Sound s → answer (present s) ≡ Done → f (fullBench s) ≡ benchOf (next (present s)))
+      → (b : Bench) (edit : Edit) → look b ≡ Done → edit ≡ noRework Done → Promise b edit (f b)
+  edit-done f made b edit h e p k = (e ∙ ap noRework (sym (a p k)), ap f (k .is) ∙ moved p (k .sound) (a p k)) where
+    a : (p : Present) → Stands b p → answer p ≡ Done
+    a p k = sym (looked b p k) ∙ h
+
+    moved : (p : Present) → SoundPresent p → answer p ≡ Done → f (benchOf p) ≡ benchOf (next p)
+    moved nothing ok d = let z : Refused NothingOpen ≡ Done = sym shut ∙ d in let y : _≡_ {A = ℕ} 0 1 = cc in absurd (omega arith)
+    moved (present s) ok d = made s ok d
+
+-- ---- pointing an output
+
+-- the bench with other outputs
+abbrev pub pointing : Bench → List ℕ → Bench
+pointing b os =
+    record {
+      «is_open» = b .«is_open»;
+      «is_matrix» = b .«is_matrix»;
+      n = b .n;
+      m = b .m;
+      g = b .g;
+      «max_gates» = b .«max_gates»;
+      «max_depth» = b .«max_depth»;
+      «max_and_depth» = b .«max_and_depth»;
+      kinds = b .kinds;
+      left = b .left;
+      right = b .right;
+      outputs = os;
+      target = b .target;
+      wanted = b .wanted;
+      depths = b .depths;
+      «and_depths» = b .«and_depths»;
+      values = b .values;
+    }
+
+-- what an accepted look shows, on any bench
+pub record OutputFits (n m g j line : ℕ) : Type 0 where
+  pub shape : Shaped n m g
+  pub there : j < m
+  pub below : line < n + g
+
+pub output-fits : (opened : Bool) (n m g j line : ℕ) → outputLook opened n m g j line ≡ Done → OutputFits n m g j line
+unfolding outputLook
+output-fits opened n m g j line h =
+    let p = past (standing opened n m g) NothingOpen h in
+    let q = past (ltb j m) NotThere (p .1) in
+    record { shape = standing-shaped opened n m g (p .0); there = ltb-true j m (q .0); below = out-below (n + g) line (q .1) }
+
+module _ (j line : ℕ) where
+  abbrev outputLookOn : Bench → Answer
+  outputLookOn b = outputLook (b .«is_open») (b .n) (b .m) (b .g) j line
+
+  -- looking at the bench gives the call's answer
+  output-look : (b : Bench) (p : Present) → Stands b p → outputLookOn b ≡ outputEditAnswer p j line
+  unfolding outputLook outputEditAnswer emptyBench fullBench
+  output-look b nothing k = ap outputLookOn (k .is)
+  output-look b (present s) k =
+      let c = s .circuit in
+      ap outputLookOn (k .is)
+      ∙ ap (λ (t : Bool). unless t NothingOpen (unless (ltb j (length (c .outs))) NotThere (outAnswer (c .inputs + length (c .gates)) line)))
+      (full-standing s (k .sound))
+
+  -- the state's bench with the output pointed
+  output-pointed : (s : State) → j < length (s .circuit .outs)
+      → pointing (fullBench s) (set (fullBench s .outputs) j line) ≡ fullBench (outputEdited s j line)
+  unfolding fullBench
+  output-pointed s h =
+      let l = sym (length-set (s .circuit .outs) j line) in
+      let o = padded-set 0 32 (s .circuit .outs) line j h in
+      λ i. record {
+        «is_open» = true;
+        «is_matrix» = fullBench s .«is_matrix»;
+        n = fullBench s .n;
+        m = l i;
+        g = fullBench s .g;
+        «max_gates» = fullBench s .«max_gates»;
+        «max_depth» = fullBench s .«max_depth»;
+        «max_and_depth» = fullBench s .«max_and_depth»;
+        kinds = fullBench s .kinds;
+        left = fullBench s .left;
+        right = fullBench s .right;
+        outputs = o i;
+        target = fullBench s .target;
+        wanted = padded (upto (wantedWords (s .target)) (l i)) 32 noWords;
+        depths = fullBench s .depths;
+        «and_depths» = fullBench s .«and_depths»;
+        values = fullBench s .values;
+      }
+
+  -- a refused edit leaves what is present
+  pub output-kept : (p : Present) (w : Refusal) → outputEditAnswer p j line ≡ Refused w → afterOutput p j line ≡ p
+  output-kept nothing w e = refl
+  output-kept (present s) w e = ap (λ (x : Answer). after x (outputEdited s j line) (present s)) e
+
+  -- what an accepted edit shows of a state
+  pub output-there : (s : State) → outputEditAnswer (present s) j line ≡ Done
+      → (j < length (s .circuit .outs)) × (outAnswer (s .circuit .inputs + length (s .circuit .gates)) line ≡ Done)
+  unfolding outputEditAnswer
+  output-there s e = let p = past (ltb j (length (s .circuit .outs))) NotThere e in (ltb-true _ _ (p .0), p .1)
+
+  shut : outputEditAnswer nothing j line ≡ Refused NothingOpen
+  unfolding outputEditAnswer
+  shut = refl
+
+  pub output-refused : (b : Bench) (w : Refusal) (edit : Edit) → outputLookOn b ≡ Refused w → edit ≡ noRework (Refused w) → OutputPromise b j line edit b
+  output-refused = edit-refused (λ p. outputEditAnswer p j line) (λ p. afterOutput p j line) outputLookOn shut output-look output-kept
+
+  pub output-done : (b : Bench) (edit : Edit) → outputLookOn b ≡ Done → edit ≡ noRework Done → OutputPromise b j line edit (pointing b (set (b .outputs) j line))
+  output-done =
+      edit-done (λ p. outputEditAnswer p j line) (λ p. afterOutput p j line) outputLookOn shut output-look output-kept
+      (λ b. pointing b (set (b .outputs) j line))
+      (λ s ok d. output-pointed s (output-there s d .0) ∙ ap (λ (x : Answer). benchOf (after x (outputEdited s j line) (present s))) (sym d))
+
+-- ---- setting the limits
+
+-- the bench with other limits
+abbrev pub limited : Bench → ℕ → ℕ → ℕ → Bench
+limited b g d a =
+    record {
+      «is_open» = b .«is_open»;
+      «is_matrix» = b .«is_matrix»;
+      n = b .n;
+      m = b .m;
+      g = b .g;
+      «max_gates» = g;
+      «max_depth» = d;
+      «max_and_depth» = a;
+      kinds = b .kinds;
+      left = b .left;
+      right = b .right;
+      outputs = b .outputs;
+      target = b .target;
+      wanted = b .wanted;
+      depths = b .depths;
+      «and_depths» = b .«and_depths»;
+      values = b .values;
+    }
+
+module _ (b : Bench) (g d a : ℕ) (edit : Edit) where
+  full-limited : (s : State) → limited (fullBench s) g d a ≡ benchOf (afterLimits (present s) (limits g d a))
+  unfolding fullBench
+  full-limited s = refl
+
+  pub limits-open : openOn b ≡ true → edit ≡ noRework Done → LimitsPromise b (limits g d a) edit (limited b g d a)
+  limits-open t e = when-open _ b t (λ s ok is. (e, ap (λ (x : Bench). limited x g d a) is ∙ full-limited s))
+
+  pub limits-shut : openOn b ≡ false → edit ≡ noRework (Refused NothingOpen) → LimitsPromise b (limits g d a) edit b
+  limits-shut t e = when-shut _ b t (λ is. (e, is))

@@ -1,0 +1,188 @@
+-- From what a bench holds to the report of its state. Assumes nothing.
+use mathlib.Core.Path.{_≡_, refl, ap, _∙_, sym}
+use mathlib.Core.Bool.{Bool, true, false, cond, not, true≢false}
+use mathlib.Core.Logic.{⊎-elim}
+use mathlib.Core.List.{List, map}
+use Prim.Native.Nat.{ℕ, _≤_, _<_, _-_, _+_, _^_, max}
+use native.Mathlib.Omega.{arith}
+use native.Mathlib.Numerals.{add-one}
+use borrow.Author.Tests.{lt-ltb, le-ltb}
+use lib.Dec.{eqb, ltb}
+use lib.Pow.{pow-mono}
+use lib.ListN.{length, getD, take, drop, replicate, length-map, length-replicate}
+use lib.Seq.{drop-cons, take-at}
+use Rattle.circuit.specs.declared.Words.{Words}
+use Rattle.circuit.specs.declared.Tally.{Tally}
+use Rattle.circuit.specs.declared.Refusal.the-variants.{NothingOpen}
+use Rattle.circuit.specs.Gate.{noWords, valueIn, tallyOf}
+use Rattle.circuit.specs.Lines.{Gate, gateAt, depths, depthStep, andStep, lines, upto, words, outputOn, depthOf, andDepthOf, greatest}
+use Rattle.circuit.proofs.LineLaws.{pad-read, place, lines-length}
+use Rattle.circuit.proofs.WordLaws.{words-values}
+use Rattle.bench.specs.declared.Bench.{Bench}
+use Rattle.bench.specs.declared.Verdict.{Verdict}
+use Rattle.bench.specs.declared.Verdict.the-variants.{Wrong, OverGates, OverDepth, OverAndDepth, Pass}
+use Rattle.bench.specs.declared.Reported.the-variants.{Given, NotGiven}
+use Rattle.bench.specs.Target.{isMatrix, wants}
+use Rattle.bench.specs.State.{State, nothing, present, reportOf, differs, least, firstOutput, firstInput, verdictOf}
+use Rattle.bench.specs.Held.{padded, wantedWords, emptyBench, fullBench}
+use Rattle.bench.specs.Calls.{ReportPromise}
+use Rattle.bench.specs.Parts.{differences, differsIn, judgedAt, judged, standing}
+use Rattle.bench.proofs.Standing.{circuit-fits, full-standing}
+use Rattle.bench.proofs.Smallest.{least-same, least-here, least-past, least-from}
+use Rattle.bench.proofs.Differing.{found-is}
+use Rattle.bench.proofs.Wanting.{upto-at, wanted-value}
+
+-- ---- the greatest of some entries, one after the other
+
+pub greatest-next : (l : List ℕ) (i top : ℕ) → i < length l → max top (greatest (drop i l)) ≡ max (max top (getD l i 0)) (greatest (drop (i + 1) l))
+greatest-next l i top h =
+    let e : greatest (drop i l) ≡ max (getD l i 0) (greatest (drop (i + 1) l)) =
+    ap greatest (drop-cons l i 0 h) ∙ ap (λ (k : ℕ). max (getD l i 0) (greatest (drop k l))) (sym (add-one i)) in
+    omega (arith, e)
+
+-- ---- the first verdict that applies to a bench
+
+module _ (b : Bench) (depth ands x : ℕ) where
+  abbrev Is : Verdict
+  Is = judgedAt b depth ands x
+
+  pub is-wrong : x < 2 ^ b .n → Wrong (record { input = x; output = least (differsIn (b .values) (b .outputs) (b .wanted) x) (b .m) 0 }) ≡ Is
+  is-wrong h = simp (lt-ltb x (2 ^ b .n) h)
+
+  module _ (right : 2 ^ b .n ≤ x) where
+    pub over-gates : b .«max_gates» < b .g → OverGates ≡ Is
+    over-gates h = simp (le-ltb x (2 ^ b .n) right, lt-ltb (b .«max_gates») (b .g) h)
+
+    module _ (few : b .g ≤ b .«max_gates») where
+      pub over-depth : b .«max_depth» < depth → OverDepth ≡ Is
+      over-depth h = simp (le-ltb x (2 ^ b .n) right, le-ltb (b .«max_gates») (b .g) few, lt-ltb (b .«max_depth») depth h)
+
+      module _ (flat : depth ≤ b .«max_depth») where
+        pub over-ands : b .«max_and_depth» < ands → OverAndDepth ≡ Is
+        over-ands h = simp (le-ltb x (2 ^ b .n) right, le-ltb (b .«max_gates») (b .g) few, le-ltb (b .«max_depth») depth flat, lt-ltb (b .«max_and_depth») ands h)
+
+        pub passes : ands ≤ b .«max_and_depth» → Pass ≡ Is
+        passes h = simp (le-ltb x (2 ^ b .n) right, le-ltb (b .«max_gates») (b .g) few, le-ltb (b .«max_depth») depth flat, le-ltb (b .«max_and_depth») ands h)
+
+-- ---- on the bench of a state
+
+-- a bench of a state differs where the state does
+differs-is : (s : State) (x j : ℕ) → s .circuit .inputs ≤ 8 → x < 256 → j < length (s .circuit .outs)
+    → let b = fullBench s in differsIn (b .values) (b .outputs) (b .wanted) x j ≡ differs s x j
+unfolding fullBench
+differs-is s x j hn hx hj =
+    let c = s .circuit in
+    let g = length (c .gates) in
+    let ws = words (c .inputs) (gateAt c) g in
+    let us = upto (wantedWords (s .target)) (length (c .outs)) in
+    let o = pad-read (c .outs) (32 - length (c .outs)) j 0 in
+    let v : valueIn (getD (padded ws 256 noWords) (getD (padded (c .outs) 32 0) j 0) noWords) x ≡ outputOn c x j =
+    ap (λ (l : ℕ). valueIn (getD (padded ws 256 noWords) l noWords) x) o
+    ∙ ap (λ (w : Words). valueIn w x) (pad-read ws (256 - length ws) (getD (c .outs) j 0) noWords)
+    ∙ words-values (c .inputs) x (gateAt c) g (getD (c .outs) j 0) hx hn in
+    let t : valueIn (getD (padded us 32 noWords) j noWords) x ≡ wants (s .target) x j =
+    ap (λ (w : Words). valueIn w x) (pad-read us (32 - length us) j noWords ∙ upto-at (wantedWords (s .target)) noWords (length (c .outs)) j hj)
+    ∙ wanted-value (s .target) j x hx in
+    λ i. not (eqb (v i) (t i))
+
+-- what a state's verdict is where no output differs
+abbrev pub limited : State → Verdict
+limited s =
+    cond (ltb (s .limits .gates) (length (s .circuit .gates))) OverGates
+    (cond (ltb (s .limits .depth) (depthOf (s .circuit))) OverDepth
+    (cond (ltb (s .limits .andDepth) (andDepthOf (s .circuit))) OverAndDepth
+    Pass))
+
+module _ (s : State) (hn : s .circuit .inputs ≤ 8) where
+  abbrev full : Bench
+  full = fullBench s
+
+  abbrev m : ℕ
+  m = length (s .circuit .outs)
+
+  -- the smallest differing output of the bench on input value x
+  abbrev outIn : ℕ → ℕ
+  outIn x = least (differsIn (full .values) (full .outputs) (full .wanted) x) m 0
+
+  outputs-is : (x : ℕ) → x < 256 → outIn x ≡ firstOutput s x
+  outputs-is x hx = least-same (differsIn (full .values) (full .outputs) (full .wanted) x) (differs s x) m 0 (λ j l u. differs-is s x j hn hx (omega arith))
+
+  -- some output differs on input value x
+  abbrev some : ℕ → Bool
+  some x = ltb (firstOutput s x) m
+
+  -- the smallest input value that is set in the words, over all 256
+  abbrev X : ℕ
+  X = least (λ (x : ℕ). eqb (valueIn (differences (full .values) (full .outputs) (full .wanted) m) x) 1) 256 0
+
+  inputs-is : X ≡ least some 256 0
+  inputs-is =
+      least-same _ some 256 0 (λ x l u. found-is (full .values) (full .outputs) (full .wanted) x (omega arith) m
+      ∙ ap (λ (j : ℕ). ltb j m) (outputs-is x (omega arith)))
+
+  -- how many input values the circuit has, at most 256
+  abbrev size : ℕ
+  size = 2 ^ s .circuit .inputs
+
+  longer : least some 256 0 ≡ least some (size + (256 - size)) 0
+  longer =
+      let h = pow-mono {i = s .circuit .inputs} {j = 8} hn in
+      let e : 256 ≡ size + (256 - size) = omega arith in
+      ap (λ (k : ℕ). least some k 0) e
+
+  -- so the search over 256 and the one over 2^n agree: on the input value, or that there is none
+  some-found : firstInput s < size → X ≡ firstInput s
+  some-found h = inputs-is ∙ longer ∙ least-here some size (256 - size) 0 (omega arith)
+
+  none-found : size ≤ firstInput s → size ≤ X
+  none-found h = omega (arith, inputs-is, longer, least-past some size (256 - size) 0 (omega arith), least-from some (256 - size) (0 + size))
+
+  -- the verdict where input value x is the smallest with a differing output, and j the output
+  abbrev at : ℕ → ℕ → Verdict
+  at x j = cond (ltb x size) (Wrong (record { input = x; output = j })) (limited s)
+
+  at-past : (x j : ℕ) → size ≤ x → at x j ≡ limited s
+  at-past x j h = ap (λ (t : Bool). cond t (Wrong (record { input = x; output = j })) (limited s)) (le-ltb x size h)
+
+  pub judged-is : judged full (depthOf (s .circuit)) (andDepthOf (s .circuit)) ≡ verdictOf s
+  unfolding fullBench judged verdictOf
+  judged-is =
+      let F = firstInput s in
+      ⊎-elim
+      (λ l. let h = pow-mono {i = s .circuit .inputs} {j = 8} hn in
+      ap (λ (x : ℕ). at x (outIn x)) (some-found l) ∙ ap (at F) (outputs-is F (omega arith)))
+      (λ m. let u : size ≤ F = ⊎-elim (λ e. omega arith) (λ e. omega arith) m in
+      at-past X (outIn X) (none-found u) ∙ sym (at-past F (firstOutput s F) u))
+      (place F size)
+
+-- ---- the report
+
+-- something is open on a bench
+abbrev pub stands : Bench → Bool
+stands b = standing (b .«is_open») (b .n) (b .m) (b .g)
+
+-- nothing is given where nothing is open
+pub not-given : (b : Bench) → stands b ≡ false → ReportPromise b (NotGiven NothingOpen)
+unfolding fullBench
+not-given b o nothing st = refl
+not-given b o (present s) st = absurd (true≢false (sym (full-standing s (st .sound)) ∙ sym (ap stands (st .is)) ∙ o))
+
+-- what is counted and found on a bench is the report of what it stands for
+pub given : (b : Bench) (counts : Tally) (depth ands : ℕ) (v : Verdict) → stands b ≡ true
+    → counts ≡ tallyOf (take (b .g) (b .kinds)) → depth ≡ greatest (take (b .n + b .g) (b .depths)) → ands ≡ greatest (take (b .n + b .g) (b .«and_depths»))
+    → v ≡ judged b depth ands → ReportPromise b (Given (record { gates = b .g; counts = counts; depth = depth; «and_depth» = ands; verdict = v }))
+unfolding emptyBench fullBench reportOf
+given b counts depth ands v o hc hd ha hv nothing st = absurd (true≢false (sym o ∙ ap stands (st .is)))
+given b counts depth ands v o hc hd ha hv (present s) st =
+    let c = s .circuit in
+    let n = c .inputs in
+    let g = length (c .gates) in
+    let kinds = map (λ (q : Gate). q .kind) (c .gates) in
+    let fits = circuit-fits (isMatrix (s .target)) c (st .sound .circuit) in
+    let each : (step : ℕ → Gate → List ℕ → ℕ) → let l = lines step 0 (replicate n 0) (gateAt c) g in take (n + g) (padded l 256 0) ≡ l =
+    λ step. take-at _ _ (n + g) (omega (arith, lines-length step 0 (replicate n 0) (gateAt c) g, length-replicate {A = ℕ} n 0)) in
+    let k = hc ∙ ap (λ (x : Bench). tallyOf (take (x .g) (x .kinds))) (st .is) ∙ ap tallyOf (take-at kinds _ g (length-map (c .gates) _)) in
+    let d = hd ∙ ap (λ (x : Bench). greatest (take (x .n + x .g) (x .depths))) (st .is) ∙ ap greatest (each depthStep) in
+    let a = ha ∙ ap (λ (x : Bench). greatest (take (x .n + x .g) (x .«and_depths»))) (st .is) ∙ ap greatest (each andStep) in
+    let w = hv ∙ (λ i. judged (st .is i) (d i) (a i)) ∙ judged-is s (fits .shape .n8) in
+    λ i. Given (record { gates = st .is i .g; counts = k i; depth = d i; «and_depth» = a i; verdict = w i })

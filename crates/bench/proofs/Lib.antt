@@ -1,0 +1,25 @@
+-- Laws of the definitions in specs/, which the proofs of the functions and the crates above cite.
+pub mod Blocks
+pub mod Differing
+pub mod EditLaws
+pub mod EntryLaws
+pub mod Examining
+pub mod Fitting
+pub mod Judging
+pub mod OpenLaws
+pub mod Operands
+pub mod Packing
+pub mod Padding
+pub mod PassLaws
+pub mod Places
+pub mod Readers
+pub mod Replacing
+pub mod RunLaws
+pub mod Smallest
+pub mod SoundLaws
+pub mod Standing
+pub mod Stood
+pub mod StoreLaws
+pub mod Turn
+pub mod Unique
+pub mod Wanting

@@ -1,0 +1,274 @@
+-- Replacing a gate: what is looked at, that a sound state stays sound, which lines are reworked, and what the bench holds after it. Assumes nothing.
+use mathlib.Core.Path.{_≡_, refl, ap, ap₂, _∙_, sym, subst}
+use mathlib.Core.Bool.{Bool, true, false, _||_}
+use mathlib.Core.Logic.{⊎-elim}
+use mathlib.Core.List.{List, [], _∷_, _++_, map}
+use Prim.Native.Nat.{ℕ, zero, suc, _≤_, _<_, _-_, _+_}
+use native.Mathlib.Omega.{arith}
+use borrow.Author.Tests.{ltb-true, eqb-false}
+use lib.Dec.{ltb, eqb}
+use lib.ListN.{length, getD, set, take, replicate, length-set, length-map}
+use lib.Seq.{getD-set-same, getD-set-other}
+use Rattle.circuit.specs.declared.Answer.{Answer}
+use Rattle.circuit.specs.declared.Answer.the-variants.{Done, Refused}
+use Rattle.circuit.specs.declared.Refusal.{Refusal}
+use Rattle.circuit.specs.declared.Refusal.the-variants.{NothingOpen, NotThere}
+use Rattle.circuit.specs.Gate.{noWords}
+use Rattle.circuit.specs.Lines.{Gate, Listing, noGate, gateAt, reads, lines, anyOf, depthStep, andStep, wordsStep, reachStep, inputWords, reached}
+use Rattle.circuit.specs.Reading.{unless, shaped, gateAnswer, listingAnswer}
+use Rattle.circuit.proofs.Accept.{Shaped, shape-is, past, both}
+use Rattle.circuit.proofs.LineLaws.{place}
+use Rattle.bench.specs.declared.Bench.{Bench}
+use Rattle.bench.specs.declared.Edit.{Edit}
+use Rattle.bench.specs.Target.{isMatrix}
+use Rattle.bench.specs.State.{State, Sound, Present, nothing, present}
+use Rattle.bench.specs.Held.{padded, emptyBench, fullBench, benchOf, Stands}
+use Rattle.bench.specs.Parts.{gateOf, holding, entries, examinedAs, examined, AllBelow, Agree, Reexamined, standing, gateLook}
+use Rattle.bench.specs.Calls.{gateEditAnswer, withGate, gateEdited, after, afterGate, readersOf, reworking, noRework, editBy, gateEdit}
+use Rattle.bench.proofs.Standing.{GateFits, gate-fits, GatesDone, OutsDone, CircuitFits, circuit-fits, fits-circuit, all-below, gate-of, full-examined, examined-same, full-standing}
+use Rattle.bench.proofs.Padding.{padded-set, map-set}
+use Rattle.bench.proofs.Places.{reworking-padded}
+
+-- ---- what is looked at
+
+-- what an acceptance shows of the numbers
+pub record LookFits (only : Bool) (n m g k kind a b : ℕ) : Type 0 where
+  pub shape : Shaped n m g
+  pub there : k < g
+  pub gate : GateFits only (n + k) kind a b
+
+pub look-fits : (opened only : Bool) (n m g k kind a b : ℕ) (r : Answer) → r ≡ gateLook opened only n m g k kind a b → r ≡ Done
+    → LookFits only n m g k kind a b
+unfolding gateLook
+look-fits opened only n m g k kind a b r e h =
+    let p = past (standing opened n m g) NothingOpen (sym e ∙ h) in
+    let q = past (ltb k g) NotThere (p .1) in
+    record { shape = shape-is n m g (both opened (p .0) .1); there = ltb-true k g (q .0); gate = gate-fits only (n + k) kind a b (q .1) }
+
+-- on a right bench it is what the edit answers
+look-is : (z : Bench) (p : Present) → Stands z p → (k kind a b : ℕ)
+    → gateLook (z .«is_open») (z .«is_matrix») (z .n) (z .m) (z .g) k kind a b ≡ gateEditAnswer p k kind a b
+unfolding gateLook gateEditAnswer emptyBench fullBench
+look-is z nothing st k kind a b =
+    ap (λ (z : Bench). gateLook (z .«is_open») (z .«is_matrix») (z .n) (z .m) (z .g) k kind a b) (st .is)
+look-is z (present s) st k kind a b =
+    ap (λ (z : Bench). gateLook (z .«is_open») (z .«is_matrix») (z .n) (z .m) (z .g) k kind a b) (st .is)
+    ∙ ap (λ (t : Bool). unless t NothingOpen (gateEditAnswer (present s) k kind a b)) (full-standing s (st .sound))
+
+-- so an answer that was given is the edit's
+pub look-answers : (z : Bench) (p : Present) → Stands z p → (k kind a b : ℕ) (r w : Answer)
+    → r ≡ gateLook (z .«is_open») (z .«is_matrix») (z .n) (z .m) (z .g) k kind a b → r ≡ w → gateEditAnswer p k kind a b ≡ w
+look-answers z p st k kind a b r w e h = sym (look-is z p st k kind a b) ∙ sym e ∙ h
+
+-- a refusal leaves what was present, and reworks nothing
+pub refused-edit : (p : Present) (k kind a b : ℕ) (w : Refusal) → gateEditAnswer p k kind a b ≡ Refused w
+    → (noRework (Refused w) ≡ gateEdit p k kind a b) × (benchOf p ≡ benchOf (afterGate p k kind a b))
+unfolding gateEditAnswer
+refused-edit nothing k kind a b w e = (ap noRework (sym e), refl)
+refused-edit (present s) k kind a b w e = (
+  ap (λ (x : Answer). editBy x (readersOf (s .circuit) k)) (sym e),
+  ap (λ (x : Answer). benchOf (after x (gateEdited s k kind a b) (present s))) (sym e),
+)
+
+-- ---- the state after it
+
+-- what an accepted edit shows
+pub record EditFits (s : State) (k kind a b : ℕ) : Type 0 where
+  pub there : k < length (s .circuit .gates)
+  pub gate : gateAnswer (isMatrix (s .target)) (s .circuit .inputs + k) kind a b ≡ Done
+
+pub edit-fits : (s : State) (k kind a b : ℕ) → gateEditAnswer (present s) k kind a b ≡ Done → EditFits s k kind a b
+unfolding gateEditAnswer
+edit-fits s k kind a b h =
+    let p = past (ltb k (length (s .circuit .gates))) NotThere h in
+    record { there = ltb-true k (length (s .circuit .gates)) (p .0); gate = p .1 }
+
+-- the gates of a circuit with an accepted gate in the place of another are accepted
+gates-kept : (only : Bool) (line : ℕ) (qs : List Gate) (k : ℕ) (q : Gate) → gateAnswer only (line + k) (q .kind) (q .left) (q .right) ≡ Done
+    → GatesDone only line qs → GatesDone only line (set qs k q)
+gates-kept only line qs k q h all j l =
+    let ls = length-set qs k q in
+    let other : (j ≡ k → ⊥) → gateAnswer only (line + j) (getD (set qs k q) j noGate .kind) (getD (set qs k q) j noGate .left) (getD (set qs k q) j noGate .right) ≡ Done =
+    λ ne. subst (λ (g : Gate). gateAnswer only (line + j) (g .kind) (g .left) (g .right) ≡ Done) (sym (getD-set-other qs k j q noGate ne)) (all j (omega arith)) in
+    ⊎-elim (λ p. other (λ e. omega arith))
+    (⊎-elim
+    (λ e.
+    let same : getD (set qs k q) j noGate ≡ q = ap (λ (i : ℕ). getD (set qs k q) i noGate) e ∙ getD-set-same qs k q noGate (omega arith) in
+    subst (λ (g : Gate). gateAnswer only (line + j) (g .kind) (g .left) (g .right) ≡ Done) (sym same) (rw e h))
+    (λ p. other (λ e. omega arith)))
+    (place j k)
+
+-- an accepted edit keeps every rule
+pub sound-kept : (s : State) (k kind a b : ℕ) → Sound s → gateEditAnswer (present s) k kind a b ≡ Done → Sound (gateEdited s k kind a b)
+sound-kept s k kind a b ok h =
+    let only = isMatrix (s .target) in
+    let c = s .circuit in
+    let q : Gate = record { kind = kind; left = a; right = b } in
+    let f = circuit-fits only c (ok .circuit) in
+    let e = edit-fits s k kind a b h in
+    let l = sym (length-set (c .gates) k q) in
+    record {
+      circuit = fits-circuit only (withGate c k q) (record {
+        shape = subst (λ (g : ℕ). Shaped (c .inputs) (length (c .outs)) g) l (f .shape);
+        shaped-true = subst (λ (g : ℕ). shaped (c .inputs) (length (c .outs)) g ≡ true) l (f .shaped-true);
+        gates = gates-kept only (c .inputs) (c .gates) k q (e .gate) (f .gates);
+        outs = subst (λ (g : ℕ). OutsDone (c .inputs + g) (c .outs)) l (f .outs);
+      });
+      target = ok .target;
+      gates = ok .gates;
+      depth = ok .depth;
+      andDepth = ok .andDepth;
+    }
+
+-- ---- which lines are reworked
+
+-- the readers of a gate do not depend on that gate
+pub reached-same : (k n : ℕ) (old new : ℕ → Gate) → Agree k old new → (j : ℕ) → reached k n new j ≡ reached k n old j
+unfolding lines
+reached-same k n old new agree zero = refl
+reached-same k n old new agree (suc j) =
+    ap₂ (λ (p : List Bool) (x : Bool). p ++ (x ∷ [])) (reached-same k n old new agree j) (made-same (eqb j k) refl (reached-same k n old new agree j)) where
+      made-same : (t : Bool) → eqb j k ≡ t → reached k n new j ≡ reached k n old j
+          → reachStep k j (new j) (map (λ (i : ℕ). getD (reached k n new j) i false) (reads (new j)))
+          ≡ reachStep k j (old j) (map (λ (i : ℕ). getD (reached k n old j) i false) (reads (old j)))
+      made-same true e r = ap (λ (t : Bool). t || anyOf (map (λ (i : ℕ). getD (reached k n new j) i false) (reads (new j)))) e
+          ∙ sym (ap (λ (t : Bool). t || anyOf (map (λ (i : ℕ). getD (reached k n old j) i false) (reads (old j)))) e)
+      made-same false e r =
+          ap₂ (λ (p : List Bool) (q : Gate). reachStep k j q (map (λ (i : ℕ). getD p i false) (reads q))) r (agree j (eqb-false j k e))
+
+-- ---- the bench after it
+
+-- the bench with gate k replaced, and its lines not yet examined
+abbrev pub replaced : Bench → ℕ → ℕ → ℕ → ℕ → Bench
+replaced z k kind a b =
+    record {
+      «is_open» = z .«is_open»;
+      «is_matrix» = z .«is_matrix»;
+      n = z .n;
+      m = z .m;
+      g = z .g;
+      «max_gates» = z .«max_gates»;
+      «max_depth» = z .«max_depth»;
+      «max_and_depth» = z .«max_and_depth»;
+      kinds = set (z .kinds) k kind;
+      left = set (z .left) k a;
+      right = set (z .right) k b;
+      outputs = z .outputs;
+      target = z .target;
+      wanted = z .wanted;
+      depths = z .depths;
+      «and_depths» = z .«and_depths»;
+      values = z .values;
+    }
+
+module _ (s : State) (k kind a b : ℕ) where
+  -- the new gate, and the state with it
+  abbrev Q : Gate
+  Q = record { kind = kind; left = a; right = b }
+
+  abbrev next : State
+  next = gateEdited s k kind a b
+
+  -- the bench of the new state, with what was held for the old one's lines
+  unfoldable pub stale : Bench
+  stale = holding (fullBench next) (fullBench s .depths) (fullBench s .«and_depths») (fullBench s .values)
+
+  module _ (there : k < length (s .circuit .gates)) where
+    -- a column of the gates with one changed
+    column-set : (f : Gate → ℕ) → set (padded (map f (s .circuit .gates)) 248 0) k (f Q) ≡ padded (map f (set (s .circuit .gates) k Q)) 248 0
+    column-set f =
+        padded-set 0 248 (map f (s .circuit .gates)) (f Q) k (omega (arith, length-map (s .circuit .gates) f))
+        ∙ ap (λ (l : List ℕ). padded l 248 0) (sym (map-set f (s .circuit .gates) k Q))
+
+    pub replaced-is : replaced (fullBench s) k kind a b ≡ stale
+    unfolding fullBench stale
+    replaced-is =
+        let p = column-set (λ (q : Gate). q .kind) in
+        let q = column-set (λ (q : Gate). q .left) in
+        let r = column-set (λ (q : Gate). q .right) in
+        let l = sym (length-set (s .circuit .gates) k Q) in
+        λ i. record {
+          «is_open» = fullBench s .«is_open»;
+          «is_matrix» = fullBench s .«is_matrix»;
+          n = fullBench s .n;
+          m = fullBench s .m;
+          g = l i;
+          «max_gates» = fullBench s .«max_gates»;
+          «max_depth» = fullBench s .«max_depth»;
+          «max_and_depth» = fullBench s .«max_and_depth»;
+          kinds = p i;
+          left = q i;
+          right = r i;
+          outputs = fullBench s .outputs;
+          target = fullBench s .target;
+          wanted = fullBench s .wanted;
+          depths = fullBench s .depths;
+          «and_depths» = fullBench s .«and_depths»;
+          values = fullBench s .values;
+        }
+
+  -- its gates are the new state's
+  stale-gate : (j : ℕ) → gateOf stale j ≡ gateAt (next .circuit) j
+  unfolding stale
+  stale-gate j = gate-of next j
+
+  -- all but gate k are as they were
+  stale-agrees : Agree k (gateAt (s .circuit)) (gateOf stale)
+  stale-agrees j ne = stale-gate j ∙ getD-set-other (s .circuit .gates) k j Q noGate ne
+
+  -- what it holds is what examining the old gates gives
+  stale-was : s .circuit .inputs ≤ 8 → stale ≡ examinedAs stale (gateAt (s .circuit))
+  unfolding stale examinedAs fullBench
+  stale-was n8 =
+      let c = s .circuit in
+      let n = c .inputs in
+      let e = full-examined s n8 in
+      let l = sym (length-set (c .gates) k Q) in
+      let p = ap (λ (z : Bench). z .depths) e ∙ ap (entries depthStep 0 (replicate n 0) (gateAt c) n) l in
+      let q = ap (λ (z : Bench). z .«and_depths») e ∙ ap (entries andStep 0 (replicate n 0) (gateAt c) n) l in
+      let r = ap (λ (z : Bench). z .values) e ∙ ap (entries wordsStep noWords (take n inputWords) (gateAt c) n) l in
+      λ i. holding (fullBench next) (p i) (q i) (r i)
+
+  -- examined, it is the bench of the new state
+  stale-examined : s .circuit .inputs ≤ 8 → examined stale ≡ fullBench next
+  unfolding stale examinedAs
+  stale-examined n8 = examined-same (fullBench next) (gateAt (next .circuit)) (gateOf (fullBench next)) (λ i h. gate-of next i) ∙ sym (full-examined next n8)
+
+  module _ (ok : Sound s) (h : gateEditAnswer (present s) k kind a b ≡ Done) where
+    fits : CircuitFits (isMatrix (s .target)) (next .circuit)
+    fits = circuit-fits (isMatrix (s .target)) (next .circuit) (sound-kept s k kind a b ok h .circuit)
+
+    stale-below : AllBelow (stale .n) (stale .g) (gateOf stale)
+    unfolding stale fullBench
+    stale-below j l =
+        subst (λ (q : Gate). (q .left < s .circuit .inputs + j) × (q .right < s .circuit .inputs + j)) (sym (stale-gate j))
+        (all-below (isMatrix (s .target)) (next .circuit) fits j l)
+
+    -- what the re-examination leaves
+    pub fresh-bench : (r : Bench) (marks : List Bool) → Reexamined stale k r marks → r ≡ fullBench next
+    fresh-bench r marks e =
+        let n8 = fits .shape .n8 in
+        e .fresh stale-below (gateAt (s .circuit)) stale-agrees (stale-was n8) ∙ stale-examined n8
+
+    -- what it marks
+    pub fresh-lines : (r : Bench) (marks : List Bool) → Reexamined stale k r marks → reworking marks ≡ reworking (readersOf (s .circuit) k)
+    unfolding stale fullBench
+    fresh-lines r marks e =
+        let c = s .circuit in
+        ap reworking (e .marked) ∙ reworking-padded (reached k (stale .n) (gateOf stale) (stale .g)) (256 - (stale .n + stale .g))
+        ∙ ap reworking
+        (reached-same k (c .inputs) (gateAt c) (gateOf stale) stale-agrees (stale .g) ∙ ap (reached k (c .inputs) (gateAt c)) (length-set (c .gates) k Q))
+
+-- an accepted edit, on a bench that stands for p
+pub done-edit : (z : Bench) (p : Present) → Stands z p → (k kind a b : ℕ) → gateEditAnswer p k kind a b ≡ Done
+    → (r : Bench) (marks : List Bool) → Reexamined (replaced z k kind a b) k r marks
+    → (reworking marks ≡ gateEdit p k kind a b) × (r ≡ benchOf (afterGate p k kind a b))
+unfolding gateEditAnswer
+done-edit z nothing st k kind a b h r marks e = let x : _≡_ {A = ℕ} 0 1 = cc in absurd (omega arith)
+done-edit z (present s) st k kind a b h r marks e =
+    let there = edit-fits s k kind a b h .there in
+    let was = ap (λ (z : Bench). replaced z k kind a b) (st .is) ∙ replaced-is s k kind a b there in
+    let f = subst (λ (z : Bench). Reexamined z k r marks) was e in (
+      fresh-lines s k kind a b (st .sound) h r marks f ∙ ap (λ (x : Answer). editBy x (readersOf (s .circuit) k)) (sym h),
+      fresh-bench s k kind a b (st .sound) h r marks f ∙ ap (λ (x : Answer). benchOf (after x (gateEdited s k kind a b) (present s))) (sym h),
+    )

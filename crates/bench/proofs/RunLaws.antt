@@ -1,0 +1,173 @@
+-- After any calls the bench stands for what the definition says is present, so a report is that of a first-time examination; and a gate edit
+-- leaves what is held for the lines that it does not rework. Assumes nothing.
+use mathlib.Core.Path.{_≡_, refl, ap, ap₂, _∙_, sym, subst}
+use mathlib.Core.Bool.{Bool, true, false}
+use mathlib.Core.List.{List, [], _∷_, _++_}
+use Prim.Native.Nat.{ℕ, _<_, _≤_, _-_, _+_}
+use native.Mathlib.Omega.{arith}
+use lib.Dec.{ltb}
+use lib.ListN.{length, getD, set, take, replicate, length-set, length-replicate}
+use lib.Seq.{getD-set-other, set-getD}
+use borrow.Author.Tests.{lt-ltb}
+use Rattle.circuit.specs.declared.Words.{Words}
+use Rattle.circuit.specs.declared.Answer.{Answer}
+use Rattle.circuit.specs.declared.Answer.the-variants.{Done, Refused}
+use Rattle.circuit.specs.declared.Refusal.the-variants.{Target as BadTarget, NotThere}
+use Rattle.circuit.specs.Gate.{noWords}
+use Rattle.circuit.specs.Lines.{Gate, Listing, noGate, gateAt, lines, depthStep, andStep, wordsStep, inputWords, reached}
+use Rattle.circuit.specs.Stored.{stored, listingIn}
+use Rattle.circuit.specs.Reading.{unless, andThen, gateAnswer, readAnswer}
+use Rattle.circuit.proofs.LineLaws.{same-lines, pad-read}
+use Rattle.circuit.proofs.Round.{listing-stored, answer-stored}
+use Rattle.bench.specs.declared.Bench.{Bench}
+use Rattle.bench.specs.declared.Edit.{Edit}
+use Rattle.bench.specs.declared.Reported.{Reported}
+use Rattle.bench.specs.Target.{Target, isMatrix, targetFits}
+use Rattle.bench.specs.State.{Limits, State, Present, nothing, present, Sound, SoundPresent}
+use Rattle.bench.specs.Held.{padded, emptyBench, fullBench, benchOf, Stands}
+use Rattle.bench.specs.Calls.{after, openAnswer, openState, gateEditAnswer, withGate, gateEdited, afterGate, readersOf, reworking, editBy, gateEdit, reported, GatePromise, ReportPromise}
+use Rattle.bench.specs.Run.{Call, afterCall, presentFrom, presentAfter, ByteLimits, Step, Runs}
+use Rattle.bench.specs.Run.Call.{opening, replacing, pointing, changing, limiting, reporting, storing}
+use Rattle.bench.proofs.Standing.{circuit-fits}
+use Rattle.bench.proofs.Examining.{inputs-length}
+use Rattle.bench.proofs.Replacing.{reached-same}
+use Rattle.bench.proofs.SoundLaws.{sound-call}
+
+-- ---- any calls
+
+-- one call: the bench after it stands for what is present after it
+pub step-stands : {b next : Bench} {call : Call} (p : Present) → Stands b p → Step b call next → Stands next (afterCall p call)
+step-stands p k (Step.opened {bytes} {t} {l} answer small promise) =
+    record { sound = sound-call p (opening bytes t l) small (k .sound); is = promise p k .1 }
+step-stands p k (Step.replaced {k = g} {kind} {x} {y} edit promise) = record { sound = sound-call p (replacing g kind x y) tt (k .sound); is = promise p k .1 }
+step-stands p k (Step.pointed {j} {line} edit promise) = record { sound = sound-call p (pointing j line) tt (k .sound); is = promise p k .1 }
+step-stands p k (Step.changed {i} {value} edit promise) = record { sound = sound-call p (changing i value) tt (k .sound); is = promise p k .1 }
+step-stands p k (Step.limited {l} edit small promise) = record { sound = sound-call p (limiting l) small (k .sound); is = promise p k .1 }
+step-stands p k (Step.reported r promise) = k
+step-stands p k (Step.stored r out promise) = k
+
+pub runs-stand : {b last : Bench} {calls : List Call} (p : Present) → Stands b p → Runs b calls last → Stands last (presentFrom p calls)
+runs-stand p k Runs.none = k
+runs-stand p k (Runs.more {call} mid step rest) = runs-stand (afterCall p call) (step-stands p k step) rest
+
+-- a bench with nothing open stands for nothing
+pub empty-stands : Stands emptyBench nothing
+empty-stands = record { sound = tt; is = refl }
+
+-- after any calls, the bench holds exactly what a first-time examination of what is present gives
+pub after-calls : {b : Bench} {calls : List Call} → Runs emptyBench calls b → Stands b (presentAfter calls)
+after-calls run = runs-stand nothing empty-stands run
+
+-- and a report says exactly what a first-time examination of it says
+pub report-after-calls : {b : Bench} {calls : List Call} {r : Reported} → Runs emptyBench calls b → ReportPromise b r → r ≡ reported (presentAfter calls)
+report-after-calls {calls} run promise = promise (presentAfter calls) (after-calls run)
+
+-- ---- a first-time examination
+
+-- what is present can be opened as it is, and is then present
+pub opens : (s : State) → Sound s → openAnswer (stored (s .circuit)) (s .target) ≡ Done
+unfolding openAnswer
+opens s ok =
+    let c = s .circuit in
+    let only = isMatrix (s .target) in
+    let r = answer-stored only c ∙ ok .circuit in
+    let f = ap (λ (x : Listing). targetFits (x .inputs) (length (x .outs)) (s .target)) (listing-stored c) ∙ ok .target in
+    λ i. andThen (r i) (unless (f i) BadTarget Done)
+
+pub opens-as : (s : State) → Sound s → presentAfter (opening (stored (s .circuit)) (s .target) (s .limits) ∷ []) ≡ present s
+opens-as s ok =
+    let e : openState (stored (s .circuit)) (s .target) (s .limits) ≡ s =
+    ap (λ (c : Listing). record { circuit = c; target = s .target; limits = s .limits }) (listing-stored (s .circuit)) in
+    λ i. after (opens s ok i) (e i) nothing
+
+-- after any calls the bench is the one on which what is present was opened just now: no call leaves a trace but in what is present
+pub as-opened-now : (s : State) {b fresh : Bench} {calls : List Call} → Runs emptyBench calls b → presentAfter calls ≡ present s
+    → Runs emptyBench (opening (stored (s .circuit)) (s .target) (s .limits) ∷ []) fresh → b ≡ fresh
+as-opened-now s run e now =
+    let k = after-calls run in
+    let ok : Sound s = subst SoundPresent e (k .sound) in
+    k .is ∙ ap benchOf (e ∙ sym (opens-as s ok)) ∙ sym (after-calls now .is)
+
+-- ---- lines that a gate edit does not rework
+
+-- what two benches hold for line i is the same
+pub record SameLine (b next : Bench) (i : ℕ) : Type 0 where
+  pub depth : getD (next .depths) i 0 ≡ getD (b .depths) i 0
+  pub andDepth : getD (next .«and_depths») i 0 ≡ getD (b .«and_depths») i 0
+  pub values : getD (next .values) i noWords ≡ getD (b .values) i noWords
+
+module _ (c : Listing) (k : ℕ) (q : Gate) where
+  agree : (j : ℕ) → (j ≡ k → ⊥) → gateAt c j ≡ gateAt (withGate c k q) j
+  agree j ne = sym (getD-set-other (c .gates) k j q noGate ne)
+
+  held-same : {A : Type 0} (step : ℕ → Gate → List A → A) (d : A) (ins : List A) → length ins ≡ c .inputs
+      → (i : ℕ) → getD (readersOf c k) i false ≡ false
+      → getD (padded (lines step d ins (gateAt (withGate c k q)) (length (withGate c k q .gates))) 256 d) i d
+      ≡ getD (padded (lines step d ins (gateAt c) (length (c .gates))) 256 d) i d
+  held-same step d ins l i h =
+      let g = length (c .gates) in
+      let new = lines step d ins (gateAt (withGate c k q)) in
+      let old = lines step d ins (gateAt c) g in
+      let u = subst (λ (n : ℕ). getD (reached k n (gateAt c) g) i false ≡ false) (sym l) h in
+      pad-read (new (length (withGate c k q .gates))) (256 - length (new (length (withGate c k q .gates)))) i d
+      ∙ ap (λ (x : ℕ). getD (new x) i d) (length-set (c .gates) k q)
+      ∙ sym (same-lines step d ins (gateAt (withGate c k q)) (gateAt c) k agree g i u)
+      ∙ sym (pad-read old (256 - length old) i d)
+
+  -- the readers of a gate do not depend on that gate, so an edit of it after an edit of it reworks the same lines
+  pub readers-kept : readersOf (withGate c k q) k ≡ readersOf c k
+  readers-kept =
+      sym (reached-same k (c .inputs) (gateAt (withGate c k q)) (gateAt c) agree (length (withGate c k q .gates)))
+      ∙ ap (reached k (c .inputs) (gateAt c)) (length-set (c .gates) k q)
+
+module _ (s : State) (ok : Sound s) (k : ℕ) where
+  line-kept : (kind x y i : ℕ) → getD (readersOf (s .circuit) k) i false ≡ false → SameLine (fullBench s) (fullBench (gateEdited s k kind x y)) i
+  unfolding fullBench
+  line-kept kind x y i h =
+      let c = s .circuit in
+      let n = c .inputs in
+      let q : Gate = record { kind = kind; left = x; right = y } in
+      let n8 = circuit-fits (isMatrix (s .target)) c (ok .circuit) .shape .n8 in
+      record {
+        depth = held-same c k q depthStep 0 (replicate n 0) (length-replicate n 0) i h;
+        andDepth = held-same c k q andStep 0 (replicate n 0) (length-replicate n 0) i h;
+        values = held-same c k q wordsStep noWords (take n inputWords) (inputs-length n n8) i h;
+      }
+
+  -- whatever the edit answers, what is held for a line that is not the gate's and does not read it, directly or through others, stays
+  pub unreworked : (b next : Bench) (kind x y : ℕ) (edit : Edit) → Stands b (present s) → GatePromise b k kind x y edit next
+      → (i : ℕ) → getD (readersOf (s .circuit) k) i false ≡ false → SameLine b next i
+  unreworked b next kind x y edit st promise i h =
+      subst (λ (z : Bench). SameLine z next i) (sym (st .is))
+      (subst (λ (z : Bench). SameLine (fullBench s) z i) (sym (promise (present s) st .1)) (by (gateEditAnswer (present s) k kind x y))) where
+        by : (a : Answer) → SameLine (fullBench s) (benchOf (after a (gateEdited s k kind x y) (present s))) i
+        by Done = line-kept kind x y i h
+        by (Refused w) = record { depth = refl; andDepth = refl; values = refl }
+
+  -- ---- a gate replaced by itself
+
+  abbrev own : Gate
+  own = gateAt (s .circuit) k
+
+  module _ (there : k < length (s .circuit .gates)) where
+    -- it is accepted
+    pub itself-accepted : gateEditAnswer (present s) k (own .kind) (own .left) (own .right) ≡ Done
+    unfolding gateEditAnswer
+    itself-accepted =
+        let only = isMatrix (s .target) in
+        let t = lt-ltb k (length (s .circuit .gates)) there in
+        let a = circuit-fits only (s .circuit) (ok .circuit) .gates k there in
+        λ i. unless (t i) NotThere (a i)
+
+    -- it changes nothing
+    pub itself-same : afterGate (present s) k (own .kind) (own .left) (own .right) ≡ present s
+    itself-same =
+        let e : gateEdited s k (own .kind) (own .left) (own .right) ≡ s =
+        ap (λ (qs : List Gate). record { circuit = record { inputs = s .circuit .inputs; gates = qs; outs = s .circuit .outs }; target = s .target; limits = s .limits })
+        (set-getD (s .circuit .gates) k noGate) in
+        λ i. after (itself-accepted i) (e i) (present s)
+
+    -- and it reworks the lines that any other accepted replacement of the gate reworks
+    pub itself-reworks : (kind x y : ℕ) → gateEditAnswer (present s) k kind x y ≡ Done
+        → gateEdit (present s) k (own .kind) (own .left) (own .right) ≡ gateEdit (present s) k kind x y
+    itself-reworks kind x y h = ap (λ (a : Answer). editBy a (readersOf (s .circuit) k)) (itself-accepted ∙ sym h)

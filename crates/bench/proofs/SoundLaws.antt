@@ -1,0 +1,113 @@
+-- Every call keeps what is present sound: an accepted open brings a sound state, an accepted edit of a sound state makes a sound one. Assumes nothing.
+use mathlib.Core.Path.{_≡_, refl, ap, _∙_, sym, subst}
+use mathlib.Core.Bool.{Bool, true}
+use mathlib.Core.List.{List, [], _∷_}
+use Prim.Native.Nat.{ℕ, zero, suc, _<_, _+_}
+use native.Mathlib.Omega.{arith}
+use lib.ListN.{length, getD, set, length-set}
+use Rattle.circuit.specs.declared.Answer.{Answer}
+use Rattle.circuit.specs.declared.Answer.the-variants.{Done, Refused}
+use Rattle.circuit.specs.declared.Refusal.the-variants.{Target as BadTarget}
+use Rattle.circuit.specs.Lines.{Listing}
+use Rattle.circuit.specs.Stored.{listingIn}
+use Rattle.circuit.specs.Reading.{unless, shaped, outAnswer, readAnswer, listingAnswer}
+use Rattle.circuit.proofs.Accept.{Shaped, past, then-done}
+use Rattle.bench.specs.Target.{Target, isMatrix, targetFits}
+use Rattle.bench.specs.State.{Limits, State, Present, nothing, present, Sound, SoundPresent}
+use Rattle.bench.specs.Calls.{after, openAnswer, openState, gateEditAnswer, gateEdited, outputEditAnswer, outputEdited, entryEditAnswer, entryEdited}
+use Rattle.bench.specs.Run.{Call, afterCall, ByteLimits}
+use Rattle.bench.specs.Run.Call.{opening, replacing, pointing, changing, limiting, reporting, storing}
+use Rattle.bench.proofs.Standing.{CircuitFits, circuit-fits, fits-circuit}
+use Rattle.bench.proofs.EditLaws.{output-there}
+use Rattle.bench.proofs.EntryLaws.{entry-accepted, same-kind}
+use Rattle.bench.proofs.OpenLaws.{listing-accepted}
+use Rattle.bench.proofs.Replacing.{sound-kept}
+
+-- what holds of each element, and of one that is put in at its place, holds of each element of the list so changed
+pub set-each : {A : Type 0} (P : ℕ → A → Type 0) (l : List A) (k : ℕ) (x d : A) → P k x → ((j : ℕ) → j < length l → P j (getD l j d))
+    → (j : ℕ) → j < length (set l k x) → P j (getD (set l k x) j d)
+set-each P [] k x d p all j h = absurd (omega arith)
+set-each P (y ∷ l) zero x d p all zero h = p
+set-each P (y ∷ l) zero x d p all (suc j) h = all (suc j) h
+set-each P (y ∷ l) (suc k) x d p all zero h = all zero (omega arith)
+set-each P (y ∷ l) (suc k) x d p all (suc j) h = set-each (λ (i : ℕ). P (suc i)) l k x d p (λ i q. all (suc i) (omega arith)) j (omega arith)
+
+pub sound-open : (bytes : List ℕ) (t : Target) (l : Limits) → ByteLimits l → openAnswer bytes t ≡ Done → Sound (openState bytes t l)
+unfolding openAnswer
+sound-open bytes t l small h =
+    let c = listingIn bytes in
+    let p = then-done (readAnswer (isMatrix t) bytes) (unless (targetFits (c .inputs) (length (c .outs)) t) BadTarget Done) h in
+    record {
+      circuit = listing-accepted (isMatrix t) bytes (p .0);
+      target = past (targetFits (c .inputs) (length (c .outs)) t) BadTarget (p .1) .0;
+      gates = small .gates;
+      depth = small .depth;
+      andDepth = small .andDepth;
+    }
+
+module _ (s : State) (ok : Sound s) where
+  pub sound-output : (j line : ℕ) → outputEditAnswer (present s) j line ≡ Done → Sound (outputEdited s j line)
+  sound-output j line h =
+      let c = s .circuit in
+      let only = isMatrix (s .target) in
+      let f = circuit-fits only c (ok .circuit) in
+      let lines = c .inputs + length (c .gates) in
+      let l = sym (length-set (c .outs) j line) in
+      record {
+        circuit = fits-circuit only (outputEdited s j line .circuit) (record {
+          shape = subst (λ (m : ℕ). Shaped (c .inputs) m (length (c .gates))) l (f .shape);
+          shaped-true = subst (λ (m : ℕ). shaped (c .inputs) m (length (c .gates)) ≡ true) l (f .shaped-true);
+          gates = f .gates;
+          outs = set-each (λ (i o : ℕ). outAnswer lines o ≡ Done) (c .outs) j line 0 (output-there j line s h .1) (f .outs);
+        });
+        target = subst (λ (m : ℕ). targetFits (c .inputs) m (s .target) ≡ true) l (ok .target);
+        gates = ok .gates;
+        depth = ok .depth;
+        andDepth = ok .andDepth;
+      }
+
+  pub sound-entry : (i value : ℕ) → entryEditAnswer (present s) i value ≡ Done → Sound (entryEdited s i value)
+  sound-entry i value h =
+      record {
+        circuit = subst (λ (only : Bool). listingAnswer only (s .circuit) ≡ Done) (same-kind i value (s .target)) (ok .circuit);
+        target = entry-accepted i value s ok h .fits;
+        gates = ok .gates;
+        depth = ok .depth;
+        andDepth = ok .andDepth;
+      }
+
+  pub sound-limits : (l : Limits) → ByteLimits l → Sound (record { circuit = s .circuit; target = s .target; limits = l })
+  sound-limits l small =
+      record { circuit = ok .circuit; target = ok .target; gates = small .gates; depth = small .depth; andDepth = small .andDepth }
+
+-- a call that gives a sound state where it is accepted
+pub sound-after : (a : Answer) (s : State) (p : Present) → (a ≡ Done → Sound s) → SoundPresent p → SoundPresent (after a s p)
+sound-after Done s p f ok = f refl
+sound-after (Refused w) s p f ok = ok
+
+-- the limits that a call gives are bytes
+abbrev pub Callable : Call → Type 0
+Callable (opening bytes t l) = ByteLimits l
+Callable (replacing k kind a b) = Unit {0}
+Callable (pointing j line) = Unit {0}
+Callable (changing i value) = Unit {0}
+Callable (limiting l) = ByteLimits l
+Callable reporting = Unit {0}
+Callable (storing room) = Unit {0}
+
+-- every call
+pub sound-call : (p : Present) (call : Call) → Callable call → SoundPresent p → SoundPresent (afterCall p call)
+sound-call p (opening bytes t l) small ok = sound-after (openAnswer bytes t) (openState bytes t l) p (sound-open bytes t l small) ok
+sound-call nothing (replacing k kind a b) u ok = ok
+sound-call (present s) (replacing k kind a b) u ok =
+    sound-after (gateEditAnswer (present s) k kind a b) (gateEdited s k kind a b) (present s) (sound-kept s k kind a b ok) ok
+sound-call nothing (pointing j line) u ok = ok
+sound-call (present s) (pointing j line) u ok =
+    sound-after (outputEditAnswer (present s) j line) (outputEdited s j line) (present s) (sound-output s ok j line) ok
+sound-call nothing (changing i value) u ok = ok
+sound-call (present s) (changing i value) u ok =
+    sound-after (entryEditAnswer (present s) i value) (entryEdited s i value) (present s) (sound-entry s ok i value) ok
+sound-call nothing (limiting l) small ok = ok
+sound-call (present s) (limiting l) small ok = sound-limits s ok l small
+sound-call p reporting u ok = ok
+sound-call p (storing room) u ok = ok

@@ -1,0 +1,39 @@
+use borrow.Author.Needs.{needs}
+use borrow.Author.Tests.{lt-ltb, le-ltb}
+use native.Mathlib.Omega.{arith}
+use mathlib.Core.Path.{_≡_, sym, _∙_}
+use Rattle.circuit.proofs.Accept.{shape-is, both}
+use Rattle.bench.specs.Parts.{gateLook}
+use Rattle.bench.proofs.edits.look_at_gate.Statement.{statement}
+use Rattle.bench.proofs.edits.look_at_gate.Tie as tie
+
+is-standing-requires : tie.Need-is-standing-requires
+is-standing-requires c κs = search needs
+
+add-check-gate : tie.Need-add-check-gate
+add-check-gate c =
+    let s = c .before .before in
+    let a = s .before .args in
+    omega (arith, shape-is (a .n) (a .m) (a .g) (both (a .opened) (sym (s .is-standing .ensures) ∙ c .before .if1 .taken) .1))
+
+check-gate-requires : tie.Need-check-gate-requires
+check-gate-requires c κs = search needs
+
+returns : tie.Need-returns
+unfolding gateLook
+returns c =
+    let t = c .before .before in
+    simp (sym (t .before .is-standing .ensures) ∙ t .if1 .taken, lt-ltb _ _ (c .before .if2 .taken)) (c .check-gate .ensures)
+
+returns-2 : tie.Need-returns-2
+unfolding gateLook
+returns-2 c = let t = c .before in simp (sym (t .before .is-standing .ensures) ∙ t .if1 .taken, le-ltb _ _ (c .if2 .left))
+
+returns-3 : tie.Need-returns-3
+unfolding gateLook
+returns-3 c = simp (sym (c .before .is-standing .ensures) ∙ c .if1 .left)
+
+pub look-at-gate-spec : {M : Type 1} → statement M
+look-at-gate-spec =
+    tie.close
+    (tie.spec is-standing-requires add-check-gate check-gate-requires returns returns-2 returns-3)

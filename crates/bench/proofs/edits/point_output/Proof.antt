@@ -1,0 +1,73 @@
+-- `bench::edits::point_output` meets its contract. Assumes nothing.
+use mathlib.Core.Path.{_≡_, _∙_, sym, subst}
+use Prim.Native.Nat.{ℕ}
+use native.Mathlib.Omega.{arith}
+use lib.ListN.{set}
+use Rattle.circuit.specs.declared.Answer.the-variants.{Done}
+use Rattle.bench.specs.Calls.{OutputPromise}
+use Rattle.bench.specs.Parts.{outputLook}
+use Rattle.bench.proofs.EditLaws.{OutputFits, output-fits, output-refused, output-done, pointing}
+use borrow.Author.Needs.{needs}
+use Rattle.bench.proofs.edits.point_output.Statement.{statement}
+use Rattle.bench.proofs.edits.point_output.Tie as tie
+use Rattle.bench.proofs.edits.point_output.Reads as reads
+use Rattle.bench.proofs.edits.point_output.Lts as lts
+use Rattle.bench.proofs.edits.byte.Reads as byte-reads
+use Rattle.bench.proofs.edits.look_at_output.Reads as look-at-output-reads
+use Rattle.bench.proofs.edits.without_lines.Reads as without-lines-reads
+
+look-at-output-requires : tie.Need-look-at-output-requires
+look-at-output-requires c κs = search needs
+
+enum-known-look : tie.Need-enum-known-look
+enum-known-look c = search needs
+
+without-lines-requires : tie.Need-without-lines-requires
+without-lines-requires c κs = search needs
+
+enum-told : tie.Need-enum-told
+enum-told c = search needs
+
+-- what was looked at showed
+looked : (c : tie.After-enum-told) → let a = c .before .before .before .args in outputLook (a .bench .«is_open») (a .bench .n) (a .bench .m) (a .bench .g) (a .j) (a .line) ≡ Done
+looked c = sym (c .before .before .look-at-output .ensures) ∙ c .enum-told .given .1
+
+ok : (c : tie.After-enum-told) → let a = c .before .before .before .args in OutputFits (a .bench .n) (a .bench .m) (a .bench .g) (a .j) (a .line)
+ok c = output-fits _ _ _ _ _ _ (looked c)
+
+byte-requires : tie.Need-byte-requires
+byte-requires c κs = omega (arith, ok c, ok c .shape)
+
+element-write-c : tie.Need-element-write-c
+element-write-c c = omega (arith, ok (c .before), ok (c .before) .shape)
+
+without-lines-requires-2 : tie.Need-without-lines-requires-2
+without-lines-requires-2 c κs = search needs
+
+returns : tie.Need-returns
+returns c =
+    let t = c .before .before in
+    let k = t .before .before in
+    let a = k .before .args in
+    output-refused (a .j) (a .line) (a .bench) _ _ (sym (k .look-at-output .ensures) ∙ t .look .given .1) (c .without-lines .ensures)
+
+returns-2 : tie.Need-returns-2
+returns-2 c =
+    let t = c .before .before in
+    let a = t .before .before .before .args in
+    subst (λ (x : ℕ). OutputPromise (a .bench) (a .j) (a .line) (c .without-lines2 .result) (pointing (a .bench) (set (a .bench .outputs) (a .j) x)))
+    (sym (c .before .byte .ensures)) (output-done (a .j) (a .line) (a .bench) _ (looked t) (c .without-lines2 .ensures))
+
+pub point-output-spec : {M : Type 1} → statement M
+point-output-spec =
+    tie.close
+    (tie.spec
+    look-at-output-requires
+    enum-known-look
+    without-lines-requires
+    enum-told
+    byte-requires
+    element-write-c
+    without-lines-requires-2
+    returns
+    returns-2)

@@ -1,0 +1,77 @@
+use borrow.Author.Needs.{needs}
+use native.Mathlib.Omega.{arith}
+use native.Mathlib.Numerals.{add-one}
+use mathlib.Core.Path.{_≡_, refl, ap, _∙_, sym}
+use mathlib.Core.List.{List}
+use Prim.Native.Nat.{ℕ, suc, _≤_, _<_, _-_, _+_}
+use lib.ListN.{length, getD, take, set}
+use lib.Seq.{take-suc}
+use Rattle.circuit.specs.declared.Words.{Words}
+use Rattle.circuit.specs.Gate.{noWords}
+use Rattle.circuit.specs.Lines.{inputWords}
+use Rattle.bench.specs.Held.{padded}
+use Rattle.bench.proofs.Padding.{padded-put}
+use Rattle.bench.proofs.Examining.{inputs-length}
+use Rattle.bench.proofs.examine.inputs_only.Statement.{statement}
+use Rattle.bench.proofs.examine.inputs_only.Tie as tie
+
+abbrev Inv-loop : tie.InvT-loop
+Inv-loop n values₀ i₀ values i = (i ≤ n) × (values ≡ padded (take i inputWords) 256 noWords)
+
+abbrev μ-loop : tie.MeasureT-loop
+μ-loop n values₀ i₀ values i = n - i
+
+-- one input more
+next : (i : ℕ) → i < 8 → set (padded (take i inputWords) 256 noWords) i (getD inputWords i noWords) ≡ padded (take (i + 1) inputWords) 256 noWords
+next i h =
+    padded-put noWords 256 (take i inputWords) (getD inputWords i noWords) i (inputs-length i (omega arith)) (omega arith)
+    ∙ ap (λ (l : List Words). padded l 256 noWords)
+    (sym (ap (λ (x : ℕ). take x inputWords) (add-one i) ∙ take-suc inputWords i noWords h))
+
+loop-holds : tie.Need-loop-holds Inv-loop μ-loop
+loop-holds c = (omega arith, refl)
+
+input-words-requires : tie.Need-input-words-requires Inv-loop μ-loop
+input-words-requires c κs = search needs
+
+mul-values : tie.Need-mul-values Inv-loop μ-loop
+mul-values c = search needs
+
+array-set-from-values : tie.Need-array-set-from-values Inv-loop μ-loop
+array-set-from-values c = search needs
+
+add-i : tie.Need-add-i Inv-loop μ-loop
+add-i c = search needs
+
+loop-less : tie.Need-loop-less Inv-loop μ-loop
+loop-less c = search needs
+
+loop-again : tie.Need-loop-again Inv-loop μ-loop
+loop-again c =
+    let h = c .before .before in
+    let i = h .loop .i in (
+      search needs,
+      ap (λ (l : List Words). set l i (c .input-words .result)) (h .loop .inv .1)
+          ∙ ap (λ (w : Words). set (padded (take i inputWords) 256 noWords) i w) (c .input-words .ensures)
+          ∙ next i (omega arith),
+    )
+
+returns : tie.Need-returns Inv-loop μ-loop
+returns c =
+    let e : c .before .loop .i ≡ c .before .before .args .n = omega arith in
+    c .before .loop .inv .1 ∙ ap (λ (x : ℕ). padded (take x inputWords) 256 noWords) e
+
+pub inputs-only-spec : {M : Type 1} → statement M
+inputs-only-spec =
+    tie.close
+    (tie.spec
+    Inv-loop
+    μ-loop
+    loop-holds
+    input-words-requires
+    mul-values
+    array-set-from-values
+    add-i
+    loop-less
+    loop-again
+    returns)

@@ -1,0 +1,65 @@
+-- A sequence of calls: what is present after it by the definition, and what it may make of a bench by the promises of the functions.
+use mathlib.Core.Path.{_≡_}
+use mathlib.Core.List.{List, [], _∷_}
+use Prim.Native.Nat.{ℕ, _<_}
+use Rattle.circuit.specs.declared.Answer.{Answer}
+use Rattle.circuit.specs.declared.Writing.{Writing}
+use Rattle.bench.specs.declared.Bench.{Bench}
+use Rattle.bench.specs.declared.Edit.{Edit}
+use Rattle.bench.specs.declared.Reported.{Reported}
+use Rattle.bench.specs.Target.{Target}
+use Rattle.bench.specs.State.{Limits, Present, nothing}
+use Rattle.bench.specs.Calls.{afterOpen, afterGate, afterOutput, afterEntry, afterLimits, OpenPromise, GatePromise, OutputPromise, EntryPromise, LimitsPromise, ReportPromise, StorePromise}
+
+-- the calls, with what each is given: stored bytes, a target of either kind and limits; gate, kind and operands; output and
+-- line; entry and value; limits; nothing; and the room that is lent
+pub data Call : Type 0 where
+  opening : List ℕ → Target → Limits → Call
+  replacing : ℕ → ℕ → ℕ → ℕ → Call
+  pointing : ℕ → ℕ → Call
+  changing : ℕ → ℕ → Call
+  limiting : Limits → Call
+  reporting : Call
+  storing : List ℕ → Call
+
+-- what is present after a call
+abbrev pub afterCall : Present → Call → Present
+afterCall p (opening bytes t l) = afterOpen p bytes t l
+afterCall p (replacing k kind a b) = afterGate p k kind a b
+afterCall p (pointing j line) = afterOutput p j line
+afterCall p (changing i value) = afterEntry p i value
+afterCall p (limiting l) = afterLimits p l
+afterCall p reporting = p
+afterCall p (storing room) = p
+
+-- what is present after some calls: the accepted ones applied in order
+abbrev pub presentFrom : Present → List Call → Present
+presentFrom p [] = p
+presentFrom p (call ∷ calls) = presentFrom (afterCall p call) calls
+
+-- the same from a bench with nothing open
+abbrev pub presentAfter : List Call → Present
+presentAfter calls = presentFrom nothing calls
+
+-- limits as a caller can give them: the functions take bytes
+pub record ByteLimits (l : Limits) : Type 0 where
+  pub gates : l .gates < 256
+  pub depth : l .depth < 256
+  pub andDepth : l .andDepth < 256
+
+-- one call on a bench, with some answer: what is known of the bench after it is the function's promise; report and store
+-- take the bench by value, and the caller's is as it was
+pub data Step (b : Bench) : Call → Bench → Type 0 where
+  opened : {bytes : List ℕ} {t : Target} {l : Limits} {next : Bench} (answer : Answer)
+      → ByteLimits l → OpenPromise b bytes t l answer next → Step b (opening bytes t l) next
+  replaced : {k kind x y : ℕ} {next : Bench} (edit : Edit) → GatePromise b k kind x y edit next → Step b (replacing k kind x y) next
+  pointed : {j line : ℕ} {next : Bench} (edit : Edit) → OutputPromise b j line edit next → Step b (pointing j line) next
+  changed : {i value : ℕ} {next : Bench} (edit : Edit) → EntryPromise b i value edit next → Step b (changing i value) next
+  limited : {l : Limits} {next : Bench} (edit : Edit) → ByteLimits l → LimitsPromise b l edit next → Step b (limiting l) next
+  reported : (r : Reported) → ReportPromise b r → Step b reporting b
+  stored : {room : List ℕ} (r : Writing) (out : List ℕ) → StorePromise b room r out → Step b (storing room) b
+
+-- one call after the other
+pub data Runs : Bench → List Call → Bench → Type 0 where
+  none : {b : Bench} → Runs b [] b
+  more : {b : Bench} {call : Call} {calls : List Call} (mid : Bench) {last : Bench} → Step b call mid → Runs mid calls last → Runs b (call ∷ calls) last

@@ -1,0 +1,242 @@
+// The edits: each looks first, and changes the bench only where nothing is left to refuse.
+ghost use mathlib.Core.Path.{_≡_};
+ghost use mathlib.Core.Bool.{cond};
+ghost use Prim.Native.Nat.{_^_, _<_, _≤_};
+ghost use Rattle.circuit.specs.declared.Answer.the-variants.{Done};
+ghost use Rattle.bench.specs.Held.{padded};
+ghost use Rattle.bench.specs.Calls.{placesFrom, sizeOf, noRework, reworking, GatePromise, OutputPromise, EntryPromise, LimitsPromise};
+ghost use Rattle.bench.specs.Parts.{standing, gateLook, outputLook, entryLook, limits};
+use crate::Bench;
+use crate::Edit;
+use crate::Edited;
+use crate::examine::rework;
+use crate::target::value_fits;
+use crate::target::wanted_words;
+use circuit::Answer;
+use circuit::Refusal;
+use circuit::reader::check_gate;
+use circuit::reader::check_output;
+use circuit::reader::is_shape;
+
+// Something is open; numbers out of range count as nothing, so that no call leaves its bounds on any bench.
+pub(crate) fn is_standing(opened: bool, n: usize, m: usize, g: usize) -> bool
+    ensures { λ r. ⌜ r ≡ standing opened n m g ⌝ }
+{
+    if opened { is_shape(n, m, g) } else { false }
+}
+
+// A number that is known to fit a byte.
+fn byte(x: usize) -> u8
+    requires { ⌜ x < 256 ⌝ }
+    ensures { λ r. ⌜ r ≡ x ⌝ }
+{
+    x as u8
+}
+
+// An answer that reworks no line.
+fn without_lines(answer: Answer) -> Edit
+    ensures { λ r. ⌜ r ≡ noRework answer ⌝ }
+{
+    let lines = [0u8; 256];
+    Edit {
+        answer,
+        lines,
+        count: 0,
+    }
+}
+
+// The marked lines in ascending order, and how many.
+fn list_lines(marks: [bool; 256]) -> Edit
+    ensures { λ r. ⌜ r ≡ reworking marks ⌝ }
+{
+    let mut lines = [0u8; 256];
+    let mut count: usize = 0;
+    let mut i: usize = 0;
+    while i < 256 {
+        if marks[i] {
+            lines[count] = byte(i);
+            count += 1;
+        }
+        i += 1;
+    }
+    let answer = Answer::Done;
+    Edit {
+        answer,
+        lines,
+        count,
+    }
+}
+
+// What replacing gate k is refused for.
+fn look_at_gate(
+    opened: bool,
+    only: bool,
+    n: usize,
+    m: usize,
+    g: usize,
+    k: usize,
+    kind: usize,
+    a: usize,
+    b: usize,
+) -> Answer
+    ensures { λ r. ⌜ r ≡ gateLook opened only n m g k kind a b ⌝ }
+{
+    if is_standing(opened, n, m, g) {
+        if k < g {
+            check_gate(only, n + k, kind, a, b)
+        } else {
+            Answer::Refused(Refusal::NotThere)
+        }
+    } else {
+        Answer::Refused(Refusal::NothingOpen)
+    }
+}
+
+// Replaces gate k. The line of gate k and every line that reads it, directly or through others, is examined again.
+pub fn replace_gate(bench: Bench, k: usize, kind: usize, a: usize, b: usize) -> Edited
+    ensures { λ r. ⌜ GatePromise bench k kind a b (r .edit) (r .bench) ⌝ }
+{
+    let look = look_at_gate(
+        bench.is_open,
+        bench.is_matrix,
+        bench.n,
+        bench.m,
+        bench.g,
+        k,
+        kind,
+        a,
+        b,
+    );
+    match look {
+        Answer::Refused(why) => {
+            let edit = without_lines(Answer::Refused(why));
+            Edited { bench, edit }
+        }
+        Answer::Done => {
+            let mut c = bench;
+            c.kinds[k] = byte(kind);
+            c.left[k] = byte(a);
+            c.right[k] = byte(b);
+            let done = rework(c, k);
+            let marks = done.marks;
+            let edit = list_lines(marks);
+            let bench = done.bench;
+            Edited { bench, edit }
+        }
+    }
+}
+
+// What pointing output j is refused for.
+fn look_at_output(opened: bool, n: usize, m: usize, g: usize, j: usize, line: usize) -> Answer
+    ensures { λ r. ⌜ r ≡ outputLook opened n m g j line ⌝ }
+{
+    if is_standing(opened, n, m, g) {
+        if j < m {
+            check_output(n + g, line)
+        } else {
+            Answer::Refused(Refusal::NotThere)
+        }
+    } else {
+        Answer::Refused(Refusal::NothingOpen)
+    }
+}
+
+// Points output j at a line.
+pub fn point_output(bench: Bench, j: usize, line: usize) -> Edited
+    ensures { λ r. ⌜ OutputPromise bench j line (r .edit) (r .bench) ⌝ }
+{
+    let look = look_at_output(bench.is_open, bench.n, bench.m, bench.g, j, line);
+    match look {
+        Answer::Refused(why) => {
+            let edit = without_lines(Answer::Refused(why));
+            Edited { bench, edit }
+        }
+        Answer::Done => {
+            let mut c = bench;
+            c.outputs[j] = byte(line);
+            let edit = without_lines(Answer::Done);
+            Edited { bench: c, edit }
+        }
+    }
+}
+
+// How many rows or entries a target has.
+fn target_length(only: bool, n: usize, m: usize) -> usize
+    requires { ⌜ n ≤ 8 ⌝ }
+    ensures { λ r. ⌜ r ≡ cond only m (2 ^ n) ⌝ }
+{
+    if only { m } else { 1usize << n }
+}
+
+// What changing entry i is refused for.
+fn look_at_entry(
+    opened: bool,
+    only: bool,
+    n: usize,
+    m: usize,
+    g: usize,
+    i: usize,
+    value: usize,
+) -> Answer
+    ensures { λ r. ⌜ r ≡ entryLook opened only n m g i value ⌝ }
+{
+    if is_standing(opened, n, m, g) {
+        if i < target_length(only, n, m) {
+            if value_fits(only, n, m, value) {
+                Answer::Done
+            } else {
+                Answer::Refused(Refusal::Target)
+            }
+        } else {
+            Answer::Refused(Refusal::NotThere)
+        }
+    } else {
+        Answer::Refused(Refusal::NothingOpen)
+    }
+}
+
+// Changes row i of a matrix, or the entry of input value i of a table.
+pub fn change_entry(bench: Bench, i: usize, value: usize) -> Edited
+    ensures { λ r. ⌜ EntryPromise bench i value (r .edit) (r .bench) ⌝ }
+{
+    let look = look_at_entry(
+        bench.is_open,
+        bench.is_matrix,
+        bench.n,
+        bench.m,
+        bench.g,
+        i,
+        value,
+    );
+    match look {
+        Answer::Refused(why) => {
+            let edit = without_lines(Answer::Refused(why));
+            Edited { bench, edit }
+        }
+        Answer::Done => {
+            let mut c = bench;
+            c.target[i] = (value % 256) as u8;
+            let wanted = wanted_words(c.is_matrix, &c.target, c.m);
+            c.wanted = wanted;
+            let edit = without_lines(Answer::Done);
+            Edited { bench: c, edit }
+        }
+    }
+}
+
+// Sets the three limits.
+pub fn set_limits(bench: Bench, gates: u8, depth: u8, ands: u8) -> Edited
+    ensures { λ r. ⌜ LimitsPromise bench (limits gates depth ands) (r .edit) (r .bench) ⌝ }
+{
+    if is_standing(bench.is_open, bench.n, bench.m, bench.g) {
+        let mut c = bench;
+        c.max_gates = gates;
+        c.max_depth = depth;
+        c.max_and_depth = ands;
+        let edit = without_lines(Answer::Done);
+        Edited { bench: c, edit }
+    } else {
+        let edit = without_lines(Answer::Refused(Refusal::NothingOpen));
+        Edited { bench, edit }
+    }
+}

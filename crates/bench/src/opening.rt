@@ -1,0 +1,185 @@
+// An empty bench, and opening: the bytes are read and the target is looked at before anything is put on the bench.
+ghost use mathlib.Core.Path.{_≡_};
+ghost use Prim.Native.Nat.{_≤_};
+ghost use lib.ListN.{length};
+ghost use Rattle.bench.specs.Target.{matrix, table};
+ghost use Rattle.circuit.specs.declared.Answer.the-variants.{Refused};
+ghost use Rattle.bench.specs.Held.{emptyBench, padded};
+ghost use Rattle.bench.specs.Calls.{OpenPromise};
+ghost use Rattle.bench.specs.Parts.{targetOf, limits, placedOf};
+use crate::Bench;
+use crate::Opened;
+use crate::examine::examine;
+use crate::target::target_fits;
+use crate::target::wanted_words;
+use circuit::Answer;
+use circuit::Circuit;
+use circuit::Refusal;
+use circuit::Words;
+use circuit::reader::read;
+
+// A bench with nothing open.
+pub fn empty() -> Bench
+    ensures { λ r. ⌜ r ≡ emptyBench ⌝ }
+{
+    let kinds = [0u8; 248];
+    let left = [0u8; 248];
+    let right = [0u8; 248];
+    let outputs = [0u8; 32];
+    let target = [0u8; 256];
+    let wanted = [Words {
+        w0: 0,
+        w1: 0,
+        w2: 0,
+        w3: 0,
+    }; 32];
+    let depths = [0u8; 256];
+    let and_depths = [0u8; 256];
+    let values = [Words {
+        w0: 0,
+        w1: 0,
+        w2: 0,
+        w3: 0,
+    }; 256];
+    Bench {
+        is_open: false,
+        is_matrix: false,
+        n: 0,
+        m: 0,
+        g: 0,
+        max_gates: 0,
+        max_depth: 0,
+        max_and_depth: 0,
+        kinds,
+        left,
+        right,
+        outputs,
+        target,
+        wanted,
+        depths,
+        and_depths,
+        values,
+    }
+}
+
+// The target's bytes, and zeros past the last.
+fn target_bytes(bytes: &[u8]) -> [u8; 256]
+    requires { ⌜ length (now bytes) ≤ 256 ⌝ }
+    ensures { λ r. ⌜ r ≡ padded (now (bytes .entry)) 256 0 ⌝ }
+{
+    let mut target = [0u8; 256];
+    let mut i: usize = 0;
+    while i < bytes.len() {
+        target[i] = bytes[i];
+        i += 1;
+    }
+    target
+}
+
+// A circuit with its target and limits, every line examined.
+fn placed(c: Circuit, only: bool, bytes: &[u8], gates: u8, depth: u8, ands: u8) -> Bench
+    requires { ⌜ (c .n ≤ 8) × (c .m ≤ 32) × (c .g ≤ 248) × (length (now bytes) ≤ 256) ⌝ }
+    ensures { λ r. ⌜ r ≡ placedOf c only (now (bytes .entry)) gates depth ands ⌝ }
+{
+    let n = c.n;
+    let m = c.m;
+    let g = c.g;
+    let kinds = c.kinds;
+    let left = c.left;
+    let right = c.right;
+    let outputs = c.outputs;
+    let target = target_bytes(bytes);
+    let wanted = wanted_words(only, &target, m);
+    let depths = [0u8; 256];
+    let and_depths = [0u8; 256];
+    let values = [Words {
+        w0: 0,
+        w1: 0,
+        w2: 0,
+        w3: 0,
+    }; 256];
+    examine(Bench {
+        is_open: true,
+        is_matrix: only,
+        n,
+        m,
+        g,
+        max_gates: gates,
+        max_depth: depth,
+        max_and_depth: ands,
+        kinds,
+        left,
+        right,
+        outputs,
+        target,
+        wanted,
+        depths,
+        and_depths,
+        values,
+    })
+}
+
+// An open that keeps the earlier bench.
+fn refused(bench: Bench, why: Refusal) -> Opened
+    ensures { λ r. ⌜ r ≡ record { bench = bench; answer = Refused why } ⌝ }
+{
+    let answer = Answer::Refused(why);
+    Opened { bench, answer }
+}
+
+// An open with a target of either kind.
+fn open_with(
+    bench: Bench,
+    bytes: &[u8],
+    only: bool,
+    target: &[u8],
+    gates: u8,
+    depth: u8,
+    ands: u8,
+) -> Opened
+    ensures { λ r. ⌜ OpenPromise bench (now (bytes .entry)) (targetOf only (now (target .entry))) (limits gates depth ands) (r .answer) (r .bench) ⌝ }
+{
+    let reading = read(bytes, only);
+    let answer = reading.answer;
+    match answer {
+        Answer::Refused(why) => refused(bench, why),
+        Answer::Done => {
+            let c = reading.circuit;
+            if target_fits(only, c.n, c.m, target) {
+                let bench = placed(c, only, target, gates, depth, ands);
+                let answer = Answer::Done;
+                Opened { bench, answer }
+            } else {
+                refused(bench, Refusal::Target)
+            }
+        }
+    }
+}
+
+// Opens a circuit with a matrix for its target: `rows[j]` is the mask of the inputs summed into output j.
+pub fn open_matrix(
+    bench: Bench,
+    bytes: &[u8],
+    rows: &[u8],
+    gates: u8,
+    depth: u8,
+    ands: u8,
+) -> Opened
+    ensures { λ r. ⌜ OpenPromise bench (now (bytes .entry)) (matrix (now (rows .entry))) (limits gates depth ands) (r .answer) (r .bench) ⌝ }
+{
+    open_with(bench, bytes, true, rows, gates, depth, ands)
+}
+
+// Opens a circuit with a table for its target: `entries[x]` is the output value on input value x.
+pub fn open_table(
+    bench: Bench,
+    bytes: &[u8],
+    entries: &[u8],
+    gates: u8,
+    depth: u8,
+    ands: u8,
+) -> Opened
+    ensures { λ r. ⌜ OpenPromise bench (now (bytes .entry)) (table (now (entries .entry))) (limits gates depth ands) (r .answer) (r .bench) ⌝ }
+{
+    open_with(bench, bytes, false, entries, gates, depth, ands)
+}
