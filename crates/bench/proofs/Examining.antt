@@ -1,20 +1,18 @@
 -- Lines examined one by one: what is held after some gates, one gate more, and the loop of `examine`. Assumes nothing.
-use mathlib.Core.Path.{_≡_, refl, ap, ap₂, _∙_, sym}
-use mathlib.Core.Bool.{Bool, true, false, _||_}
+use mathlib.Core.Path.{_≡_, ap, ap₂, _∙_, sym}
 use mathlib.Core.List.{List, [], _∷_, _++_, append-assoc}
-use Prim.Native.Nat.{ℕ, zero, suc, _≤_, _<_, _-_, _+_, max}
+use Prim.Native.Nat.{ℕ, suc, _≤_, _<_, _-_, _+_, max}
 use native.Mathlib.Omega.{arith}
-use lib.Dec.{eqb}
 use lib.ListN.{length, getD, set, take, replicate, length-append, length-replicate, length-take}
 use Rattle.circuit.specs.declared.Words.{Words}
 use Rattle.circuit.specs.Gate.{kindOf, nonlinear, wordsOf, noWords}
-use Rattle.circuit.specs.Lines.{Gate, lines, depthStep, andStep, wordsStep, reachStep, inputWords, depths, andDepths, words, reached}
+use Rattle.circuit.specs.Lines.{Gate, lines, depthStep, andStep, wordsStep, inputWords, depths, andDepths, words}
 use Rattle.circuit.proofs.LineLaws.{made, lines-suc, lines-length, depth-le, and-depth-le, put-next, pad-read, pad-next}
 use Rattle.bench.specs.declared.Bench.{Bench}
 use Rattle.bench.specs.Held.{padded}
 use Rattle.bench.specs.Parts.{gateOf, holding, entries, examinedAs, examined}
 use Rattle.bench.proofs.Padding.{padded-none}
-use Rattle.bench.proofs.Operands.{second, depth-two, and-two, words-two, reach-two}
+use Rattle.bench.proofs.Operands.{second, depth-two, and-two, words-two}
 
 -- ---- an array with an entry a line
 

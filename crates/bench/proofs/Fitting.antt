@@ -18,6 +18,10 @@ use Rattle.bench.specs.Parts.{targetOf, valueFits}
 pub shift-is : (n : ℕ) → n ≤ 32 → (1 * 2 ^ n) % 2 ^ 64 ≡ 2 ^ n
 shift-is n h = shl-exact {a = 1} 1 n 64 (lit< tt) (omega arith) ∙ one-mul (2 ^ n)
 
+pub row-none : (n row : ℕ) → row ≡ 0 → false ≡ rowFits n row
+unfolding rowFits
+row-none n row e = rw e
+
 pub row-fits-is : (n row : ℕ) → n ≤ 8 → (row ≡ 0 → ⊥) → ltb row ((1 * 2 ^ n) % 2 ^ 64) ≡ rowFits n row
 unfolding rowFits
 row-fits-is n row h z =

@@ -1,6 +1,6 @@
 -- From what a bench holds to the report of its state. Assumes nothing.
 use mathlib.Core.Path.{_≡_, refl, ap, _∙_, sym}
-use mathlib.Core.Bool.{Bool, true, false, cond, not, true≢false}
+use mathlib.Core.Bool.{Bool, true, false, cond, not}
 use mathlib.Core.Logic.{⊎-elim}
 use mathlib.Core.List.{List, map}
 use Prim.Native.Nat.{ℕ, _≤_, _<_, _-_, _+_, _^_, max}
@@ -15,19 +15,21 @@ use Rattle.circuit.specs.declared.Words.{Words}
 use Rattle.circuit.specs.declared.Tally.{Tally}
 use Rattle.circuit.specs.declared.Refusal.the-variants.{NothingOpen}
 use Rattle.circuit.specs.Gate.{noWords, valueIn, tallyOf}
-use Rattle.circuit.specs.Lines.{Gate, gateAt, depths, depthStep, andStep, lines, upto, words, outputOn, depthOf, andDepthOf, greatest}
+use Rattle.circuit.specs.Lines.{Gate, gateAt, depthStep, andStep, lines, upto, words, outputOn, depthOf, andDepthOf, greatest}
 use Rattle.circuit.proofs.LineLaws.{pad-read, place, lines-length}
 use Rattle.circuit.proofs.WordLaws.{words-values}
 use Rattle.bench.specs.declared.Bench.{Bench}
 use Rattle.bench.specs.declared.Verdict.{Verdict}
 use Rattle.bench.specs.declared.Verdict.the-variants.{Wrong, OverGates, OverDepth, OverAndDepth, Pass}
+use Rattle.bench.specs.declared.Reported.{Reported}
 use Rattle.bench.specs.declared.Reported.the-variants.{Given, NotGiven}
 use Rattle.bench.specs.Target.{isMatrix, wants}
-use Rattle.bench.specs.State.{State, nothing, present, reportOf, differs, least, firstOutput, firstInput, verdictOf}
-use Rattle.bench.specs.Held.{padded, wantedWords, emptyBench, fullBench}
-use Rattle.bench.specs.Calls.{ReportPromise}
-use Rattle.bench.specs.Parts.{differences, differsIn, judgedAt, judged, standing}
-use Rattle.bench.proofs.Standing.{circuit-fits, full-standing}
+use Rattle.bench.specs.State.{State, Present, reportOf, differs, least, firstOutput, firstInput, verdictOf}
+use Rattle.bench.specs.Held.{padded, wantedWords, fullBench}
+use Rattle.bench.specs.Calls.{reported, ReportPromise}
+use Rattle.bench.specs.Parts.{differences, differsIn, judgedAt, judged}
+use Rattle.bench.proofs.Standing.{circuit-fits}
+use Rattle.bench.proofs.Stood.{openOn, when-open, when-shut}
 use Rattle.bench.proofs.Smallest.{least-same, least-here, least-past, least-from}
 use Rattle.bench.proofs.Differing.{found-is}
 use Rattle.bench.proofs.Wanting.{upto-at, wanted-value}
@@ -157,32 +159,28 @@ module _ (s : State) (hn : s .circuit .inputs ≤ 8) where
 
 -- ---- the report
 
--- something is open on a bench
-abbrev pub stands : Bench → Bool
-stands b = standing (b .«is_open») (b .n) (b .m) (b .g)
-
 -- nothing is given where nothing is open
-pub not-given : (b : Bench) → stands b ≡ false → ReportPromise b (NotGiven NothingOpen)
-unfolding fullBench
-not-given b o nothing st = refl
-not-given b o (present s) st = absurd (true≢false (sym (full-standing s (st .sound)) ∙ sym (ap stands (st .is)) ∙ o))
+pub not-given : (b : Bench) → openOn b ≡ false → ReportPromise b (NotGiven NothingOpen)
+not-given b o = when-shut (λ (p : Present). NotGiven NothingOpen ≡ reported p) b o (λ e. refl)
 
 -- what is counted and found on a bench is the report of what it stands for
-pub given : (b : Bench) (counts : Tally) (depth ands : ℕ) (v : Verdict) → stands b ≡ true
-    → counts ≡ tallyOf (take (b .g) (b .kinds)) → depth ≡ greatest (take (b .n + b .g) (b .depths)) → ands ≡ greatest (take (b .n + b .g) (b .«and_depths»))
-    → v ≡ judged b depth ands → ReportPromise b (Given (record { gates = b .g; counts = counts; depth = depth; «and_depth» = ands; verdict = v }))
-unfolding emptyBench fullBench reportOf
-given b counts depth ands v o hc hd ha hv nothing st = absurd (true≢false (sym o ∙ ap stands (st .is)))
-given b counts depth ands v o hc hd ha hv (present s) st =
-    let c = s .circuit in
-    let n = c .inputs in
-    let g = length (c .gates) in
-    let kinds = map (λ (q : Gate). q .kind) (c .gates) in
-    let fits = circuit-fits (isMatrix (s .target)) c (st .sound .circuit) in
-    let each : (step : ℕ → Gate → List ℕ → ℕ) → let l = lines step 0 (replicate n 0) (gateAt c) g in take (n + g) (padded l 256 0) ≡ l =
-    λ step. take-at _ _ (n + g) (omega (arith, lines-length step 0 (replicate n 0) (gateAt c) g, length-replicate {A = ℕ} n 0)) in
-    let k = hc ∙ ap (λ (x : Bench). tallyOf (take (x .g) (x .kinds))) (st .is) ∙ ap tallyOf (take-at kinds _ g (length-map (c .gates) _)) in
-    let d = hd ∙ ap (λ (x : Bench). greatest (take (x .n + x .g) (x .depths))) (st .is) ∙ ap greatest (each depthStep) in
-    let a = ha ∙ ap (λ (x : Bench). greatest (take (x .n + x .g) (x .«and_depths»))) (st .is) ∙ ap greatest (each andStep) in
-    let w = hv ∙ (λ i. judged (st .is i) (d i) (a i)) ∙ judged-is s (fits .shape .n8) in
-    λ i. Given (record { gates = st .is i .g; counts = k i; depth = d i; «and_depth» = a i; verdict = w i })
+module _ (b : Bench) (counts : Tally) (depth ands : ℕ) (v : Verdict) where
+  abbrev made : Reported
+  made = Given (record { gates = b .g; counts = counts; depth = depth; «and_depth» = ands; verdict = v })
+
+  pub given : openOn b ≡ true → counts ≡ tallyOf (take (b .g) (b .kinds)) → depth ≡ greatest (take (b .n + b .g) (b .depths))
+      → ands ≡ greatest (take (b .n + b .g) (b .«and_depths»)) → v ≡ judged b depth ands → ReportPromise b made
+  unfolding fullBench reportOf
+  given o hc hd ha hv = when-open (λ (p : Present). made ≡ reported p) b o (λ s ok e.
+      let c = s .circuit in
+      let n = c .inputs in
+      let g = length (c .gates) in
+      let kinds = map (λ (q : Gate). q .kind) (c .gates) in
+      let fits = circuit-fits (isMatrix (s .target)) c (ok .circuit) in
+      let each : (step : ℕ → Gate → List ℕ → ℕ) → let l = lines step 0 (replicate n 0) (gateAt c) g in take (n + g) (padded l 256 0) ≡ l =
+      λ step. take-at _ _ (n + g) (omega (arith, lines-length step 0 (replicate n 0) (gateAt c) g, length-replicate {A = ℕ} n 0)) in
+      let k = hc ∙ ap (λ (x : Bench). tallyOf (take (x .g) (x .kinds))) e ∙ ap tallyOf (take-at kinds _ g (length-map (c .gates) _)) in
+      let d = hd ∙ ap (λ (x : Bench). greatest (take (x .n + x .g) (x .depths))) e ∙ ap greatest (each depthStep) in
+      let a = ha ∙ ap (λ (x : Bench). greatest (take (x .n + x .g) (x .«and_depths»))) e ∙ ap greatest (each andStep) in
+      let w = hv ∙ (λ i. judged (e i) (d i) (a i)) ∙ judged-is s (fits .shape .n8) in
+      λ i. Given (record { gates = e i .g; counts = k i; depth = d i; «and_depth» = a i; verdict = w i }))

@@ -1,8 +1,8 @@
 -- What a gate makes of the lines that it reads, by its first operand and the second line that it reads, as the code has it. Assumes nothing.
-use mathlib.Core.Path.{_≡_, refl, ap, ap₂, _∙_, sym}
+use mathlib.Core.Path.{_≡_, refl, ap}
 use mathlib.Core.Bool.{Bool, true, false, _||_}
-use mathlib.Core.List.{List, [], _∷_, _++_, map}
-use Prim.Native.Nat.{ℕ, zero, suc, _≤_, _<_, _-_, _+_, max}
+use mathlib.Core.List.{List, [], _∷_, map}
+use Prim.Native.Nat.{ℕ, suc, _<_, _+_, max}
 use native.Mathlib.Omega.{arith}
 use lib.Dec.{eqb}
 use lib.ListN.{getD, take}
@@ -10,7 +10,6 @@ use Rattle.circuit.specs.declared.Words.{Words}
 use Rattle.circuit.specs.Gate.{Kind, kindOf, operands, secondRead, nonlinear, wordsOf, noWords}
 use Rattle.circuit.specs.Lines.{Gate, reads, greatest, anyOf, depthStep, andStep, wordsStep, reachStep}
 use Rattle.circuit.proofs.Keep.{Below}
-use Rattle.bench.specs.Parts.{AllBelow}
 
 -- the second line that a gate reads; of NOT, which reads one, its first again
 abbrev pub second : Gate → ℕ

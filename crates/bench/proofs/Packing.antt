@@ -2,20 +2,20 @@
 use mathlib.Core.Path.{_≡_, ap, _∙_, sym}
 use mathlib.Core.Bool.{Bool, cond}
 use mathlib.Core.Logic.{⊎-elim}
-use mathlib.Core.List.{List, [], _∷_, _++_}
+use mathlib.Core.List.{List}
 use Prim.Native.Nat.{ℕ, zero, suc, _≤_, _<_, _-_, _+_, _*_, _/_, _%_, _^_}
 use native.Mathlib.Omega.{arith}
 use native.Mathlib.Numerals.{add-one}
 use native.Mathlib.Nat.{add-comm, pow-suc, mod-eq-of-lt, add-mul-mod-self-right, eq-or-lt-of-le}
 use lib.Dec.{eqb}
-use lib.ListN.{length, getD, set, replicate, length-append}
+use lib.ListN.{getD, set}
 use lib.Pow.{pow-add, pow-mono, high, field, shl-exact}
 use borrow.Author.Tests.{eq-eqb, ne-eqb}
 use Rattle.circuit.specs.Gate.{Kind, bit, wordsOf, noWords}
 use Rattle.circuit.specs.Lines.{upto, inputWords}
-use Rattle.circuit.proofs.LineLaws.{put-next}
 use Rattle.circuit.proofs.Over.{upto-suc, upto-length}
 use Rattle.bench.specs.Held.{padded, packed, rowWords}
+use Rattle.bench.proofs.Padding.{padded-put}
 
 -- ---- numbers packed from bits
 
@@ -72,11 +72,5 @@ module _ (row i : ℕ) where
 
 -- ---- an array filled from the front
 
--- the next entry is stored
-pub pad-put : {A : Type 0} (p : List A) (a d : A) (cap n : ℕ) → length p ≡ n → n < cap → set (padded p cap d) n a ≡ padded (p ++ (a ∷ [])) cap d
-pad-put {A} p a d cap n e h =
-    let r : cap - length p ≡ suc (cap - length (p ++ (a ∷ []))) = omega (arith, length-append p (a ∷ [])) in
-    ap (λ (k : ℕ). set (p ++ replicate k d) n a) r ∙ put-next p d (replicate (cap - length (p ++ (a ∷ []))) d) a n e
-
 pub upto-put : {A : Type 0} (f : ℕ → A) (d : A) (cap j : ℕ) → j < cap → set (padded (upto f j) cap d) j (f j) ≡ padded (upto f (j + 1)) cap d
-upto-put {A} f d cap j h = pad-put (upto f j) (f j) d cap j (upto-length f j) h ∙ ap (λ (l : List A). padded l cap d) (sym (upto-suc f j))
+upto-put {A} f d cap j h = padded-put d cap (upto f j) (f j) j (upto-length f j) h ∙ ap (λ (l : List A). padded l cap d) (sym (upto-suc f j))

@@ -1,9 +1,9 @@
 -- Lists that are filled up to a length: an element within, and one more. Assumes nothing.
-use mathlib.Core.Path.{_≡_, refl, ap, ap₂, _∙_, sym}
+use mathlib.Core.Path.{_≡_, refl, ap, _∙_, sym}
 use mathlib.Core.List.{List, [], _∷_, _++_, map}
 use Prim.Native.Nat.{ℕ, zero, suc, _≤_, _<_, _-_, _+_}
 use native.Mathlib.Omega.{arith}
-use lib.ListN.{length, getD, set, replicate, length-append, length-set, length-replicate, replicate-append-replicate}
+use lib.ListN.{length, set, replicate, length-append, length-set, length-replicate, replicate-append-replicate}
 use lib.Seq.{set-append-left}
 use Rattle.circuit.proofs.LineLaws.{put-next}
 use Rattle.bench.specs.Held.{padded}

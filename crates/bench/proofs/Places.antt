@@ -1,12 +1,12 @@
 -- The list of marked places: ascending, each marked place and no other, as long as the set is large; and the loop of `list_lines`. Assumes nothing.
 use mathlib.Core.Path.{_≡_, refl, ap, ap₂, _∙_, sym}
 use mathlib.Core.Bool.{Bool, true, false, true≢false, cond}
-use mathlib.Core.Logic.{_⊎_, inl, inr, ⊎-elim}
+use mathlib.Core.Logic.{⊎-elim}
 use mathlib.Core.List.{List, [], _∷_, _++_, append-nil, List·Memᴰ, List·Memᴰ·head, List·Memᴰ·tail, List·Memᴰ·not-nil, List·Memᴰ·cases-cons, Memᴰ·cast}
 use Prim.Native.Nat.{ℕ, zero, suc, _≤_, _<_, _-_, _+_}
 use native.Mathlib.Omega.{arith}
 use native.Mathlib.Numerals.{add-one}
-use lib.ListN.{length, getD, set, take, replicate, length-append, length-take}
+use lib.ListN.{length, getD, set, take, replicate, length-append}
 use lib.Seq.{take-suc, take-all, length-take-le}
 use Rattle.circuit.specs.declared.Answer.the-variants.{Done}
 use Rattle.bench.specs.declared.Edit.{Edit}
@@ -18,11 +18,13 @@ use Rattle.bench.proofs.Padding.{padded-put}
 pub places-append : (i : ℕ) (xs ys : List Bool) → placesFrom i (xs ++ ys) ≡ placesFrom i xs ++ placesFrom (i + length xs) ys
 unfolding placesFrom
 places-append i [] ys = let e : i ≡ i + 0 = omega arith in ap (λ (k : ℕ). placesFrom k ys) e
-places-append i (x ∷ xs) ys = go x (places-append (suc i) xs ys) where
-  go : (x : Bool) → placesFrom (suc i) (xs ++ ys) ≡ placesFrom (suc i) xs ++ placesFrom (suc i + length xs) ys
-      → placesFrom i (x ∷ (xs ++ ys)) ≡ placesFrom i (x ∷ xs) ++ placesFrom (i + suc (length xs)) ys
-  go true r = let e : suc i + length xs ≡ i + suc (length xs) = omega arith in ap (λ (l : List ℕ). i ∷ l) (r ∙ ap (λ (k : ℕ). placesFrom (suc i) xs ++ placesFrom k ys) e)
-  go false r = let e : suc i + length xs ≡ i + suc (length xs) = omega arith in r ∙ ap (λ (k : ℕ). placesFrom (suc i) xs ++ placesFrom k ys) e
+places-append i (x ∷ xs) ys =
+    let e : suc i + length xs ≡ i + suc (length xs) = omega arith in
+    go x (places-append (suc i) xs ys ∙ ap (λ (k : ℕ). placesFrom (suc i) xs ++ placesFrom k ys) e) where
+      go : (x : Bool) → placesFrom (suc i) (xs ++ ys) ≡ placesFrom (suc i) xs ++ placesFrom (i + suc (length xs)) ys
+          → placesFrom i (x ∷ (xs ++ ys)) ≡ placesFrom i (x ∷ xs) ++ placesFrom (i + suc (length xs)) ys
+      go true r = ap (λ (l : List ℕ). i ∷ l) r
+      go false r = r
 
 -- ---- the count
 

@@ -1,8 +1,8 @@
 -- The lines that an edit of gate k reworks, said without the examination: that gate's line, and every line whose gate reads one of them. Assumes nothing.
-use mathlib.Core.Path.{_≡_, refl, ap, ap₂, _∙_, sym, subst}
+use mathlib.Core.Path.{_≡_, refl, ap, _∙_, sym, subst}
 use mathlib.Core.Bool.{Bool, true, false, true≢false, _||_}
 use mathlib.Core.Logic.{_⊎_, inl, inr, ⊎-elim}
-use mathlib.Core.List.{List, [], _∷_, _++_, map, List·Memᴰ, List·Memᴰ·head, List·Memᴰ·tail, List·Memᴰ·not-nil, List·Memᴰ·cases-cons, Memᴰ·cast}
+use mathlib.Core.List.{List, [], _∷_, map, List·Memᴰ, List·Memᴰ·head, List·Memᴰ·tail, List·Memᴰ·not-nil, List·Memᴰ·cases-cons, Memᴰ·cast}
 use Prim.Native.Nat.{ℕ, zero, suc, _≤_, _<_, _-_, _+_}
 use native.Mathlib.Omega.{arith}
 use borrow.Author.Tests.{eqb-true, eq-eqb}
@@ -10,7 +10,7 @@ use lib.Dec.{eqb}
 use lib.ListN.{length, getD, replicate, length-replicate, List·getD-eq-default}
 use Rattle.circuit.specs.declared.Answer.{Answer}
 use Rattle.circuit.specs.declared.Answer.the-variants.{Done}
-use Rattle.circuit.specs.Lines.{Gate, Listing, gateAt, reads, lines, anyOf, reachStep, reached}
+use Rattle.circuit.specs.Lines.{Listing, gateAt, reads, lines, anyOf, reachStep, reached}
 use Rattle.circuit.proofs.Keep.{Below}
 use Rattle.circuit.proofs.LineLaws.{made, lines-length, lines-one, lines-more, lines-at, pad-read, place}
 use Rattle.bench.specs.declared.Edit.{Edit}

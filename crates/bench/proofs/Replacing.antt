@@ -14,14 +14,13 @@ use Rattle.circuit.specs.declared.Answer.the-variants.{Done, Refused}
 use Rattle.circuit.specs.declared.Refusal.{Refusal}
 use Rattle.circuit.specs.declared.Refusal.the-variants.{NothingOpen, NotThere}
 use Rattle.circuit.specs.Gate.{noWords}
-use Rattle.circuit.specs.Lines.{Gate, Listing, noGate, gateAt, reads, lines, anyOf, depthStep, andStep, wordsStep, reachStep, inputWords, reached}
-use Rattle.circuit.specs.Reading.{unless, shaped, gateAnswer, listingAnswer}
+use Rattle.circuit.specs.Lines.{Gate, noGate, gateAt, reads, lines, anyOf, depthStep, andStep, wordsStep, reachStep, inputWords, reached}
+use Rattle.circuit.specs.Reading.{unless, shaped, gateAnswer}
 use Rattle.circuit.proofs.Accept.{Shaped, shape-is, past, both}
 use Rattle.circuit.proofs.LineLaws.{place}
 use Rattle.bench.specs.declared.Bench.{Bench}
-use Rattle.bench.specs.declared.Edit.{Edit}
 use Rattle.bench.specs.Target.{isMatrix}
-use Rattle.bench.specs.State.{State, Sound, Present, nothing, present}
+use Rattle.bench.specs.State.{State, Sound, SoundPresent, Present, nothing, present}
 use Rattle.bench.specs.Held.{padded, emptyBench, fullBench, benchOf, Stands}
 use Rattle.bench.specs.Parts.{gateOf, holding, entries, examinedAs, examined, AllBelow, Agree, Reexamined, standing, gateLook}
 use Rattle.bench.specs.Calls.{gateEditAnswer, withGate, gateEdited, after, afterGate, readersOf, reworking, noRework, editBy, gateEdit}
@@ -119,6 +118,14 @@ sound-kept s k kind a b ok h =
       depth = ok .depth;
       andDepth = ok .andDepth;
     }
+
+-- what is present keeps every rule, accepted or refused
+pub sound-after : (p : Present) (k kind a b : ℕ) → SoundPresent p → SoundPresent (afterGate p k kind a b)
+sound-after nothing k kind a b ok = ok
+sound-after (present s) k kind a b ok = go (gateEditAnswer (present s) k kind a b) refl where
+  go : (x : Answer) → gateEditAnswer (present s) k kind a b ≡ x → SoundPresent (after x (gateEdited s k kind a b) (present s))
+  go Done e = sound-kept s k kind a b ok e
+  go (Refused w) e = ok
 
 -- ---- which lines are reworked
 

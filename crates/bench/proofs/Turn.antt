@@ -1,8 +1,8 @@
 -- The loop of `rework`: its invariant, and that a turn keeps it. Assumes nothing.
 use mathlib.Core.Path.{_≡_, refl, ap, ap₂, _∙_, sym, subst}
 use mathlib.Core.Bool.{Bool, true, false, _||_}
-use mathlib.Core.List.{List, [], _∷_, _++_}
-use Prim.Native.Nat.{ℕ, zero, suc, _≤_, _<_, _-_, _+_}
+use mathlib.Core.List.{List, _++_}
+use Prim.Native.Nat.{ℕ, _≤_, _<_, _-_, _+_}
 use native.Mathlib.Omega.{arith}
 use lib.Dec.{eqb}
 use lib.ListN.{length, getD, set, take, drop, replicate, length-replicate, replicate-append-replicate}
@@ -10,11 +10,11 @@ use Rattle.circuit.specs.declared.Words.{Words}
 use Rattle.circuit.specs.Gate.{noWords}
 use Rattle.circuit.specs.Lines.{Gate, lines, depthStep, andStep, wordsStep, reachStep, inputWords, depths, andDepths, words, reached}
 use Rattle.circuit.proofs.LineLaws.{made, unreached}
-use Rattle.circuit.proofs.Keep.{Kept, kept-read, kept-hit, kept-start, kept-miss, kept-done}
+use Rattle.circuit.proofs.Keep.{kept-read, kept-hit, kept-start, kept-miss, kept-done}
 use Rattle.bench.specs.declared.Bench.{Bench}
-use Rattle.bench.specs.Parts.{gateOf, holding, entries, examinedAs, examined, AllBelow, Agree, Reexamined}
+use Rattle.bench.specs.Parts.{gateOf, holding, entries, examinedAs, AllBelow, Agree, Reexamined}
 use Rattle.bench.proofs.Operands.{second, reach-two, reads-below}
-use Rattle.bench.proofs.Examining.{entries-read, entries-skip, entries-next, entries-length, inputs-length, Stored, Shows, Makes, stored-makes, put}
+use Rattle.bench.proofs.Examining.{entries-read, entries-skip, entries-next, entries-length, inputs-length, Stored, Shows, stored-makes, put}
 
 -- the circuit before the edit: it differs at gate k alone, and its lines were held
 pub record Old (b : Bench) (k : ℕ) (old : ℕ → Gate) : Type 0 where

@@ -1,7 +1,4 @@
--- `bench::edits::is_standing` meets its contract. Assumes nothing.
-use mathlib.Core.Path.{ap, _∙_, sym}
-use mathlib.Core.Bool.{Bool, _&&_}
-use Rattle.circuit.specs.Reading.{shaped}
+-- `is_standing`: the shape counts where something is open.
 use borrow.Author.Needs.{needs}
 use Rattle.bench.proofs.edits.is_standing.Statement.{statement}
 use Rattle.bench.proofs.edits.is_standing.Tie as tie
@@ -10,9 +7,7 @@ is-shape-requires : tie.Need-is-shape-requires
 is-shape-requires c κs = search needs
 
 returns : tie.Need-returns
-returns c =
-    let a = c .before .before .args in
-    c .is-shape .ensures ∙ ap (λ (t : Bool). t && shaped (a .n) (a .m) (a .g)) (sym (c .before .if1 .taken))
+returns c = rw (c .before .if1 .taken) (c .is-shape .ensures)
 
 returns-2 : tie.Need-returns-2
 returns-2 c = search needs

@@ -1,7 +1,8 @@
+-- `list_lines`: the loop keeps `Listed`.
 use borrow.Author.Needs.{needs}
 use mathlib.Core.Path.{_≡_}
 use mathlib.Core.Logic.{⊎-elim}
-use Prim.Native.Nat.{ℕ, _-_}
+use Prim.Native.Nat.{_-_}
 use lib.ListN.{length}
 use Rattle.bench.proofs.Places.{Listed, list-start, list-hit, list-miss, list-done, moved-list}
 use Rattle.bench.proofs.edits.list_lines.Statement.{statement}

@@ -1,7 +1,8 @@
+-- `look_at_gate`: each way out is the definition at the tests that led there.
 use borrow.Author.Needs.{needs}
 use borrow.Author.Tests.{lt-ltb, le-ltb}
 use native.Mathlib.Omega.{arith}
-use mathlib.Core.Path.{_≡_, sym, _∙_}
+use mathlib.Core.Path.{sym, _∙_}
 use Rattle.circuit.proofs.Accept.{shape-is, both}
 use Rattle.bench.specs.Parts.{gateLook}
 use Rattle.bench.proofs.edits.look_at_gate.Statement.{statement}

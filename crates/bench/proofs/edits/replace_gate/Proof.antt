@@ -1,6 +1,7 @@
+-- `replace_gate`: on a right bench the answer is the edit's, and what is left is the bench of the state after it.
 use borrow.Author.Needs.{needs}
 use native.Mathlib.Omega.{arith}
-use mathlib.Core.Path.{_≡_, subst, _∙_}
+use mathlib.Core.Path.{subst, _∙_}
 use Rattle.bench.specs.declared.Bench.{Bench}
 use Rattle.bench.specs.Parts.{Reexamined}
 use Rattle.bench.proofs.Replacing.{LookFits, look-fits, look-answers, refused-edit, done-edit, replaced}

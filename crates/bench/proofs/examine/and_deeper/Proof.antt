@@ -1,3 +1,4 @@
+-- `and_deeper`: the test picks the greater, and a gate counts at most once.
 use borrow.Author.Needs.{needs}
 use native.Mathlib.Omega.{arith}
 use mathlib.Core.Logic.{⊎-elim}

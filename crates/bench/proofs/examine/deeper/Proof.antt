@@ -1,3 +1,4 @@
+-- `deeper`: the test picks the greater, and a byte holds one more than what is below 255.
 use borrow.Author.Needs.{needs}
 use native.Mathlib.Omega.{arith}
 use mathlib.Core.Logic.{⊎-elim}

@@ -1,8 +1,9 @@
+-- `examine`: the loop keeps `Examining`; every index is a byte or a line of the circuit.
 use borrow.Author.Needs.{needs}
-use mathlib.Core.Path.{_≡_, refl, _∙_}
+use mathlib.Core.Path.{refl, _∙_}
 use Prim.Native.Nat.{_-_}
 use Rattle.bench.specs.Parts.{examinedAs}
-use Rattle.bench.proofs.Examining.{Examining, Stored, examine-start, examine-next, examine-done}
+use Rattle.bench.proofs.Examining.{Examining, examine-start, examine-next, examine-done}
 use Rattle.bench.proofs.examine.examine.Statement.{statement}
 use Rattle.bench.proofs.examine.examine.Tie as tie
 

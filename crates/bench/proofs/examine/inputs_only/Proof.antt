@@ -1,10 +1,11 @@
+-- `inputs_only`: the inputs so far, and nothing past them.
 use borrow.Author.Needs.{needs}
 use native.Mathlib.Omega.{arith}
 use native.Mathlib.Numerals.{add-one}
 use mathlib.Core.Path.{_≡_, refl, ap, _∙_, sym}
 use mathlib.Core.List.{List}
-use Prim.Native.Nat.{ℕ, suc, _≤_, _<_, _-_, _+_}
-use lib.ListN.{length, getD, take, set}
+use Prim.Native.Nat.{ℕ, _≤_, _<_, _-_, _+_}
+use lib.ListN.{getD, take, set}
 use lib.Seq.{take-suc}
 use Rattle.circuit.specs.declared.Words.{Words}
 use Rattle.circuit.specs.Gate.{noWords}

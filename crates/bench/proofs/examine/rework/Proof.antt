@@ -1,8 +1,8 @@
+-- `rework`: the loop keeps `Turn`; a turn stores a line that is reached and leaves one that is not.
 use borrow.Author.Needs.{needs}
-use mathlib.Core.Path.{_≡_, sym, _∙_}
+use mathlib.Core.Path.{sym, _∙_}
 use mathlib.Core.Logic.{⊎-elim}
 use Prim.Native.Nat.{_-_}
-use Rattle.bench.proofs.Examining.{Stored}
 use Rattle.bench.proofs.Turn.{Turn, start, hit, miss, done, test-is, moved}
 use Rattle.bench.proofs.examine.rework.Statement.{statement}
 use Rattle.bench.proofs.examine.rework.Tie as tie

@@ -5,7 +5,8 @@ use mathlib.Core.Path.{_≡_, _∙_, sym}
 use Prim.Native.Nat.{_≤_, _+_}
 use lib.ListN.{length}
 use lib.Seq.{length-take-le}
-use Rattle.circuit.proofs.Accept.{Shaped, shape-is, both}
+use Rattle.circuit.proofs.Accept.{Shaped}
+use Rattle.bench.proofs.Stood.{standing-shaped}
 use Rattle.bench.proofs.Judging.{given, not-given}
 use Rattle.bench.proofs.reporting.report.Statement.{statement}
 use Rattle.bench.proofs.reporting.report.Tie as tie
@@ -21,7 +22,7 @@ long c = search needs
 ok : (c : tie.Then1) → let b = c .before .before .args .bench in Shaped (b .n) (b .m) (b .g)
 ok c =
     let b = c .before .before .args .bench in
-    shape-is (b .n) (b .m) (b .g) (both (b .«is_open») (sym (c .before .is-standing .ensures) ∙ c .if1 .taken) .1)
+    standing-shaped (b .«is_open») (b .n) (b .m) (b .g) (sym (c .before .is-standing .ensures) ∙ c .if1 .taken)
 
 -- so the prefixes that are lent lie within the arrays
 within : (c : tie.Then1) → let b = c .before .before .args .bench in
