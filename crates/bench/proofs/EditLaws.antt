@@ -1,13 +1,12 @@
 -- What pointing an output and setting the limits leave, from what was looked at first. Assumes nothing.
 use mathlib.Core.Path.{_≡_, refl, ap, _∙_, sym}
-use mathlib.Core.Bool.{Bool, true, false, cond}
-use mathlib.Core.List.{List, _++_}
-use Prim.Native.Nat.{ℕ, _<_, _≤_, _-_, _+_}
+use mathlib.Core.Bool.{Bool, true, false}
+use mathlib.Core.List.{List}
+use Prim.Native.Nat.{ℕ, _<_, _+_}
 use native.Mathlib.Omega.{arith}
 use lib.Dec.{ltb}
 use lib.ListN.{length, set, length-set}
 use borrow.Author.Tests.{ltb-true}
-use Rattle.circuit.specs.declared.Words.{Words}
 use Rattle.circuit.specs.declared.Answer.{Answer}
 use Rattle.circuit.specs.declared.Answer.the-variants.{Done, Refused}
 use Rattle.circuit.specs.declared.Refusal.{Refusal}
@@ -18,7 +17,7 @@ use Rattle.circuit.specs.Reading.{unless, outAnswer}
 use Rattle.circuit.proofs.Accept.{Shaped, past}
 use Rattle.bench.specs.declared.Bench.{Bench}
 use Rattle.bench.specs.declared.Edit.{Edit}
-use Rattle.bench.specs.State.{State, Sound, SoundPresent, Limits, Present, nothing, present}
+use Rattle.bench.specs.State.{State, Sound, SoundPresent, Present, nothing, present}
 use Rattle.bench.specs.Held.{padded, wantedWords, emptyBench, fullBench, benchOf, Stands}
 use Rattle.bench.specs.Calls.{after, noRework, outputEditAnswer, outputEdited, afterOutput, afterLimits, OutputPromise, LimitsPromise}
 use Rattle.bench.specs.Parts.{limits, standing, outputLook}

@@ -1,7 +1,7 @@
 -- What changing an entry of the target leaves, from what was looked at first. Assumes nothing.
 use mathlib.Core.Path.{_≡_, refl, ap, _∙_, sym}
 use mathlib.Core.Bool.{Bool, true, false, cond, _&&_}
-use mathlib.Core.List.{List, [], _∷_, _++_}
+use mathlib.Core.List.{List, [], _∷_}
 use Prim.Native.Nat.{ℕ, zero, suc, _<_, _≤_, _-_, _+_, _%_, _^_}
 use native.Mathlib.Omega.{arith}
 use native.Mathlib.Nat.{mod-eq-of-lt}
@@ -22,11 +22,11 @@ use Rattle.circuit.proofs.LineLaws.{pad-read}
 use Rattle.bench.specs.declared.Bench.{Bench}
 use Rattle.bench.specs.declared.Edit.{Edit}
 use Rattle.bench.specs.Target.{Target, matrix, table, isMatrix, bytesOf, rowFits, entryFits, allOf, targetFits}
-use Rattle.bench.specs.State.{State, Sound, Limits, Present, nothing, present}
-use Rattle.bench.specs.Held.{padded, packed, rowWords, columnWords, wantedWords, emptyBench, fullBench, benchOf, Stands}
+use Rattle.bench.specs.State.{State, Sound, Present, nothing, present}
+use Rattle.bench.specs.Held.{padded, packed, rowWords, wantedWords, emptyBench, fullBench, benchOf, Stands}
 use Rattle.bench.specs.Calls.{after, noRework, entryAnswer, entryEditAnswer, withEntry, entryEdited, afterEntry, EntryPromise}
 use Rattle.bench.specs.Parts.{targetOf, valueFits, standing, entryLook}
-use Rattle.bench.proofs.Standing.{CircuitFits, circuit-fits, full-standing}
+use Rattle.bench.proofs.Standing.{circuit-fits, full-standing}
 use Rattle.bench.proofs.Stood.{standing-shaped}
 use Rattle.bench.proofs.Padding.{padded-set}
 use Rattle.bench.proofs.EditLaws.{edit-refused, edit-done}

@@ -1,14 +1,12 @@
 -- What opening leaves: the bench with a circuit and its target placed on it is the one that stands for them. Assumes nothing.
 use mathlib.Core.Path.{_≡_, refl, ap, _∙_, sym, subst}
-use mathlib.Core.Bool.{Bool, true, false, cond, _&&_}
-use mathlib.Core.List.{List, [], _∷_, _++_}
-use Prim.Native.Nat.{ℕ, suc, _<_, _≤_, _-_, _+_, _^_}
+use mathlib.Core.Bool.{Bool, true, false}
+use mathlib.Core.List.{List}
+use Prim.Native.Nat.{ℕ, _≤_, _^_}
 use native.Mathlib.Omega.{arith}
-use native.Mathlib.Numerals.{add-one}
 use lib.Dec.{leb, eqb}
-use lib.ListN.{length, getD, set, take, replicate, length-take}
+use lib.ListN.{length, replicate}
 use lib.Pow.{pow-mono}
-use lib.Seq.{take-suc}
 use borrow.Author.Tests.{eqb-true}
 use Rattle.circuit.specs.declared.Words.{Words}
 use Rattle.circuit.specs.declared.Circuit.{Circuit}
@@ -19,28 +17,20 @@ use Rattle.circuit.specs.declared.Refusal.{Refusal}
 use Rattle.circuit.specs.declared.Refusal.the-variants.{Target as BadTarget}
 use Rattle.circuit.specs.Gate.{noWords}
 use Rattle.circuit.specs.Lines.{Listing, gateAt, upto}
-use Rattle.circuit.specs.Stored.{stored, held, listingIn}
+use Rattle.circuit.specs.Stored.{held, listingIn}
 use Rattle.circuit.specs.Reading.{unless, andThen, readAnswer, reading, readingOf, listingAnswer}
 use Rattle.circuit.proofs.Accept.{Shaped, both}
 use Rattle.circuit.proofs.Round.{answer-stored, stored-listing}
 use Rattle.bench.specs.declared.Bench.{Bench}
 use Rattle.bench.specs.declared.Opened.{Opened}
 use Rattle.bench.specs.Target.{Target, matrix, table, isMatrix, bytesOf, targetFits}
-use Rattle.bench.specs.State.{Limits, State, Present}
+use Rattle.bench.specs.State.{Limits, State}
 use Rattle.bench.specs.Held.{padded, wantedWords, fullBench, benchOf}
 use Rattle.bench.specs.Calls.{after, openAnswer, openState, OpenPromise}
 use Rattle.bench.specs.Parts.{targetOf, limits, gateOf, examinedAs, examined, placedOf}
-use Rattle.bench.proofs.Standing.{CircuitFits, circuit-fits, gate-of, full-examined, examined-same}
-use Rattle.bench.proofs.Padding.{padded-put}
+use Rattle.bench.proofs.Standing.{circuit-fits, gate-of, full-examined, examined-same}
 use Rattle.bench.proofs.StoreLaws.{circuit-of-full}
 use Rattle.bench.proofs.EntryLaws.{wanted-padded}
-
--- one element more of a list that is copied
-pub padded-take : {A : Type 0} (l : List A) (d : A) (cap i : ℕ) → i < length l → i < cap
-    → set (padded (take i l) cap d) i (getD l i d) ≡ padded (take (i + 1) l) cap d
-padded-take {A} l d cap i h c =
-    padded-put d cap (take i l) (getD l i d) i (omega (arith, length-take i l)) c
-    ∙ ap (λ (x : List A). padded x cap d) (sym (ap (λ (k : ℕ). take k l) (add-one i) ∙ take-suc l i d h))
 
 -- ---- the bench with a circuit, a target and limits
 

@@ -1,14 +1,13 @@
 -- Replacing a gate: what is looked at, that a sound state stays sound, which lines are reworked, and what the bench holds after it. Assumes nothing.
 use mathlib.Core.Path.{_≡_, refl, ap, ap₂, _∙_, sym, subst}
 use mathlib.Core.Bool.{Bool, true, false, _||_}
-use mathlib.Core.Logic.{⊎-elim}
 use mathlib.Core.List.{List, [], _∷_, _++_, map}
 use Prim.Native.Nat.{ℕ, zero, suc, _≤_, _<_, _-_, _+_}
 use native.Mathlib.Omega.{arith}
 use borrow.Author.Tests.{ltb-true, eqb-false}
 use lib.Dec.{ltb, eqb}
 use lib.ListN.{length, getD, set, take, replicate, length-set, length-map}
-use lib.Seq.{getD-set-same, getD-set-other}
+use lib.Seq.{getD-set-other}
 use Rattle.circuit.specs.declared.Answer.{Answer}
 use Rattle.circuit.specs.declared.Answer.the-variants.{Done, Refused}
 use Rattle.circuit.specs.declared.Refusal.{Refusal}
@@ -16,8 +15,7 @@ use Rattle.circuit.specs.declared.Refusal.the-variants.{NothingOpen, NotThere}
 use Rattle.circuit.specs.Gate.{noWords}
 use Rattle.circuit.specs.Lines.{Gate, noGate, gateAt, reads, lines, anyOf, depthStep, andStep, wordsStep, reachStep, inputWords, reached}
 use Rattle.circuit.specs.Reading.{unless, shaped, gateAnswer}
-use Rattle.circuit.proofs.Accept.{Shaped, shape-is, past, both}
-use Rattle.circuit.proofs.LineLaws.{place}
+use Rattle.circuit.proofs.Accept.{Shaped, past}
 use Rattle.bench.specs.declared.Bench.{Bench}
 use Rattle.bench.specs.Target.{isMatrix}
 use Rattle.bench.specs.State.{State, Sound, SoundPresent, Present, nothing, present}
@@ -25,7 +23,8 @@ use Rattle.bench.specs.Held.{padded, emptyBench, fullBench, benchOf, Sta
 use Rattle.bench.specs.Parts.{gateOf, holding, entries, examinedAs, examined, AllBelow, Agree, Reexamined, standing, gateLook}
 use Rattle.bench.specs.Calls.{gateEditAnswer, withGate, gateEdited, after, afterGate, readersOf, reworking, noRework, editBy, gateEdit}
 use Rattle.bench.proofs.Standing.{GateFits, gate-fits, GatesDone, OutsDone, CircuitFits, circuit-fits, fits-circuit, all-below, gate-of, full-examined, examined-same, full-standing}
-use Rattle.bench.proofs.Padding.{padded-set, map-set}
+use Rattle.bench.proofs.Padding.{padded-set, map-set, set-each}
+use Rattle.bench.proofs.Stood.{standing-shaped}
 use Rattle.bench.proofs.Places.{reworking-padded}
 
 -- ---- what is looked at
@@ -42,7 +41,7 @@ unfolding gateLook
 look-fits opened only n m g k kind a b r e h =
     let p = past (standing opened n m g) NothingOpen (sym e ∙ h) in
     let q = past (ltb k g) NotThere (p .1) in
-    record { shape = shape-is n m g (both opened (p .0) .1); there = ltb-true k g (q .0); gate = gate-fits only (n + k) kind a b (q .1) }
+    record { shape = standing-shaped opened n m g (p .0); there = ltb-true k g (q .0); gate = gate-fits only (n + k) kind a b (q .1) }
 
 -- on a right bench it is what the edit answers
 look-is : (z : Bench) (p : Present) → Stands z p → (k kind a b : ℕ)
@@ -85,17 +84,8 @@ edit-fits s k kind a b h =
 -- the gates of a circuit with an accepted gate in the place of another are accepted
 gates-kept : (only : Bool) (line : ℕ) (qs : List Gate) (k : ℕ) (q : Gate) → gateAnswer only (line + k) (q .kind) (q .left) (q .right) ≡ Done
     → GatesDone only line qs → GatesDone only line (set qs k q)
-gates-kept only line qs k q h all j l =
-    let ls = length-set qs k q in
-    let other : (j ≡ k → ⊥) → gateAnswer only (line + j) (getD (set qs k q) j noGate .kind) (getD (set qs k q) j noGate .left) (getD (set qs k q) j noGate .right) ≡ Done =
-    λ ne. subst (λ (g : Gate). gateAnswer only (line + j) (g .kind) (g .left) (g .right) ≡ Done) (sym (getD-set-other qs k j q noGate ne)) (all j (omega arith)) in
-    ⊎-elim (λ p. other (λ e. omega arith))
-    (⊎-elim
-    (λ e.
-    let same : getD (set qs k q) j noGate ≡ q = ap (λ (i : ℕ). getD (set qs k q) i noGate) e ∙ getD-set-same qs k q noGate (omega arith) in
-    subst (λ (g : Gate). gateAnswer only (line + j) (g .kind) (g .left) (g .right) ≡ Done) (sym same) (rw e h))
-    (λ p. other (λ e. omega arith)))
-    (place j k)
+gates-kept only line qs k q h all =
+    set-each (λ (j : ℕ) (g : Gate). gateAnswer only (line + j) (g .kind) (g .left) (g .right) ≡ Done) qs k q noGate h all
 
 -- an accepted edit keeps every rule
 pub sound-kept : (s : State) (k kind a b : ℕ) → Sound s → gateEditAnswer (present s) k kind a b ≡ Done → Sound (gateEdited s k kind a b)

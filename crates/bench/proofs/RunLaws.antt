@@ -1,22 +1,20 @@
 -- After any calls the bench stands for what the definition says is present, so a report is that of a first-time examination; and a gate edit
 -- leaves what is held for the lines that it does not rework. Assumes nothing.
-use mathlib.Core.Path.{_≡_, refl, ap, ap₂, _∙_, sym, subst}
-use mathlib.Core.Bool.{Bool, true, false}
+use mathlib.Core.Path.{_≡_, refl, ap, _∙_, sym, subst}
+use mathlib.Core.Bool.{false}
 use mathlib.Core.List.{List, [], _∷_, _++_}
-use Prim.Native.Nat.{ℕ, _<_, _≤_, _-_, _+_}
-use native.Mathlib.Omega.{arith}
-use lib.Dec.{ltb}
-use lib.ListN.{length, getD, set, take, replicate, length-set, length-replicate}
+use Prim.Native.Nat.{ℕ, _<_, _-_, _+_}
+use lib.ListN.{length, getD, take, replicate, length-set, length-replicate}
 use lib.Seq.{getD-set-other, set-getD}
 use borrow.Author.Tests.{lt-ltb}
-use Rattle.circuit.specs.declared.Words.{Words}
 use Rattle.circuit.specs.declared.Answer.{Answer}
 use Rattle.circuit.specs.declared.Answer.the-variants.{Done, Refused}
 use Rattle.circuit.specs.declared.Refusal.the-variants.{Target as BadTarget, NotThere}
 use Rattle.circuit.specs.Gate.{noWords}
 use Rattle.circuit.specs.Lines.{Gate, Listing, noGate, gateAt, lines, depthStep, andStep, wordsStep, inputWords, reached}
-use Rattle.circuit.specs.Stored.{stored, listingIn}
-use Rattle.circuit.specs.Reading.{unless, andThen, gateAnswer, readAnswer}
+use Rattle.circuit.specs.Stored.{stored}
+use Rattle.circuit.specs.Reading.{unless, andThen}
+use Rattle.circuit.specs.Writing.{roomAfter}
 use Rattle.circuit.proofs.LineLaws.{same-lines, pad-read}
 use Rattle.circuit.proofs.Round.{listing-stored, answer-stored}
 use Rattle.bench.specs.declared.Bench.{Bench}
@@ -25,13 +23,14 @@ use Rattle.bench.specs.declared.Reported.{Reported}
 use Rattle.bench.specs.Target.{Target, isMatrix, targetFits}
 use Rattle.bench.specs.State.{Limits, State, Present, nothing, present, Sound, SoundPresent}
 use Rattle.bench.specs.Held.{padded, emptyBench, fullBench, benchOf, Stands}
-use Rattle.bench.specs.Calls.{after, openAnswer, openState, gateEditAnswer, withGate, gateEdited, afterGate, readersOf, reworking, editBy, gateEdit, reported, GatePromise, ReportPromise}
-use Rattle.bench.specs.Run.{Call, afterCall, presentFrom, presentAfter, ByteLimits, Step, Runs}
+use Rattle.bench.specs.Calls.{after, openAnswer, openState, gateEditAnswer, withGate, gateEdited, afterGate, readersOf, editBy, gateEdit, reported, GatePromise, ReportPromise, afterOpen, afterOutput, outputEditAnswer, entryEditAnswer, afterEntry, limitsAnswer, afterLimits, noRework, storeAnswer, storedOf}
+use Rattle.bench.specs.Run.{Call, afterCall, presentFrom, presentAfter, Step, Runs}
 use Rattle.bench.specs.Run.Call.{opening, replacing, pointing, changing, limiting, reporting, storing}
 use Rattle.bench.proofs.Standing.{circuit-fits}
 use Rattle.bench.proofs.Examining.{inputs-length}
 use Rattle.bench.proofs.Replacing.{reached-same}
-use Rattle.bench.proofs.SoundLaws.{sound-call}
+use Rattle.bench.proofs.Unique.{one-present}
+use Rattle.bench.proofs.SoundLaws.{sound-call, Callable}
 
 -- ---- any calls
 
@@ -58,9 +57,73 @@ empty-stands = record { sound = tt; is = refl }
 pub after-calls : {b : Bench} {calls : List Call} → Runs emptyBench calls b → Stands b (presentAfter calls)
 after-calls run = runs-stand nothing empty-stands run
 
+-- so whatever a function promises on a bench that stands for something holds of what is present
+pub promised-after-calls : (Q : Present → Type 0) {b : Bench} {calls : List Call} → Runs emptyBench calls b → ((p : Present) → Stands b p → Q p) → Q (presentAfter calls)
+promised-after-calls Q {calls} run promise = promise (presentAfter calls) (after-calls run)
+
 -- and a report says exactly what a first-time examination of it says
 pub report-after-calls : {b : Bench} {calls : List Call} {r : Reported} → Runs emptyBench calls b → ReportPromise b r → r ≡ reported (presentAfter calls)
-report-after-calls {calls} run promise = promise (presentAfter calls) (after-calls run)
+report-after-calls {r} run promise = promised-after-calls (λ (p : Present). r ≡ reported p) run promise
+
+-- ---- the promises can be met
+
+-- what holds of what is present holds of whatever the bench stands for, since that is one thing
+met : (b : Bench) (p : Present) → Stands b p → (Q : Present → Type 0) → Q p → (q : Present) → Stands b q → Q q
+met b p k Q x q l = subst Q (one-present b p q k l) x
+
+-- after any calls, a further one has a bench and an answer that its promise allows
+pub step-exists : (b : Bench) (p : Present) → Stands b p → (call : Call) → Callable call → Step b call (benchOf (afterCall p call))
+step-exists b p k (opening bytes t l) small =
+    Step.opened (openAnswer bytes t) small
+    (met b p k (λ (q : Present). (openAnswer bytes t ≡ openAnswer bytes t) × (benchOf (afterOpen p bytes t l) ≡ benchOf (afterOpen q bytes t l))) (refl, refl))
+step-exists b p k (replacing g kind x y) u =
+    Step.replaced (gateEdit p g kind x y)
+    (met b p k (λ (q : Present). (gateEdit p g kind x y ≡ gateEdit q g kind x y) × (benchOf (afterGate p g kind x y) ≡ benchOf (afterGate q g kind x y))) (refl, refl))
+step-exists b p k (pointing j line) u =
+    Step.pointed (noRework (outputEditAnswer p j line))
+    (met b p k (λ (q : Present). (noRework (outputEditAnswer p j line) ≡ noRework (outputEditAnswer q j line)) × (benchOf (afterOutput p j line) ≡ benchOf (afterOutput q j line))) (refl, refl))
+step-exists b p k (changing i value) u =
+    Step.changed (noRework (entryEditAnswer p i value))
+    (met b p k (λ (q : Present). (noRework (entryEditAnswer p i value) ≡ noRework (entryEditAnswer q i value)) × (benchOf (afterEntry p i value) ≡ benchOf (afterEntry q i value))) (refl, refl))
+step-exists b p k (limiting l) small =
+    Step.limited (noRework (limitsAnswer p)) small
+    (met b p k (λ (q : Present). (noRework (limitsAnswer p) ≡ noRework (limitsAnswer q)) × (benchOf (afterLimits p l) ≡ benchOf (afterLimits q l))) (refl, refl))
+step-exists b p k reporting u =
+    subst (λ (z : Bench). Step b reporting z) (k .is) (Step.reported (reported p) (met b p k (λ (q : Present). reported p ≡ reported q) refl))
+step-exists b p k (storing room) u =
+    let r = storeAnswer p (length room) in
+    let out = roomAfter r (storedOf p) room in
+    subst (λ (z : Bench). Step b (storing room) z) (k .is)
+    (Step.stored r out (met b p k (λ (q : Present). (r ≡ storeAnswer q (length room)) × (out ≡ roomAfter (storeAnswer q (length room)) (storedOf q) room)) (refl, refl)))
+
+abbrev pub AllCallable : List Call → Type 0
+AllCallable [] = Unit {0}
+AllCallable (call ∷ calls) = Callable call × AllCallable calls
+
+runs-from : (b : Bench) (p : Present) → Stands b p → (calls : List Call) → AllCallable calls → (last : Bench) × Runs b calls last
+runs-from b p k [] u = (b, Runs.none)
+runs-from b p k (call ∷ calls) u =
+    let next = benchOf (afterCall p call) in
+    let step = step-exists b p k call (u .0) in
+    let rest = runs-from next (afterCall p call) (step-stands p k step) calls (u .1) in
+    (rest .0, Runs.more next step (rest .1))
+
+-- so whatever is called, with limits that are bytes, there is a bench after it
+pub runs-exist : (calls : List Call) → AllCallable calls → (b : Bench) × Runs emptyBench calls b
+runs-exist calls u = runs-from emptyBench nothing empty-stands calls u
+
+-- ---- what is present: that of the last accepted open, with the accepted edits since then applied in order
+
+pub present-append : (p : Present) (calls more : List Call) → presentFrom p (calls ++ more) ≡ presentFrom (presentFrom p calls) more
+present-append p [] more = refl
+present-append p (call ∷ calls) more = present-append (afterCall p call) calls more
+
+-- an accepted open replaces everything, whatever was called before it
+pub since-open : (calls since : List Call) (bytes : List ℕ) (t : Target) (l : Limits) → openAnswer bytes t ≡ Done
+    → presentAfter (calls ++ opening bytes t l ∷ since) ≡ presentFrom (present (openState bytes t l)) since
+since-open calls since bytes t l e =
+    present-append nothing calls (opening bytes t l ∷ since)
+    ∙ ap (λ (a : Answer). presentFrom (after a (openState bytes t l) (presentFrom nothing calls)) since) e
 
 -- ---- a first-time examination
 

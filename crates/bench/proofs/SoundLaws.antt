@@ -1,36 +1,26 @@
 -- Every call keeps what is present sound: an accepted open brings a sound state, an accepted edit of a sound state makes a sound one. Assumes nothing.
-use mathlib.Core.Path.{_≡_, refl, ap, _∙_, sym, subst}
+use mathlib.Core.Path.{_≡_, refl, sym, subst}
 use mathlib.Core.Bool.{Bool, true}
-use mathlib.Core.List.{List, [], _∷_}
-use Prim.Native.Nat.{ℕ, zero, suc, _<_, _+_}
-use native.Mathlib.Omega.{arith}
-use lib.ListN.{length, getD, set, length-set}
+use mathlib.Core.List.{List}
+use Prim.Native.Nat.{ℕ, _+_}
+use lib.ListN.{length, length-set}
 use Rattle.circuit.specs.declared.Answer.{Answer}
 use Rattle.circuit.specs.declared.Answer.the-variants.{Done, Refused}
 use Rattle.circuit.specs.declared.Refusal.the-variants.{Target as BadTarget}
-use Rattle.circuit.specs.Lines.{Listing}
 use Rattle.circuit.specs.Stored.{listingIn}
 use Rattle.circuit.specs.Reading.{unless, shaped, outAnswer, readAnswer, listingAnswer}
 use Rattle.circuit.proofs.Accept.{Shaped, past, then-done}
 use Rattle.bench.specs.Target.{Target, isMatrix, targetFits}
 use Rattle.bench.specs.State.{Limits, State, Present, nothing, present, Sound, SoundPresent}
-use Rattle.bench.specs.Calls.{after, openAnswer, openState, gateEditAnswer, gateEdited, outputEditAnswer, outputEdited, entryEditAnswer, entryEdited}
+use Rattle.bench.specs.Calls.{after, openAnswer, openState, outputEditAnswer, outputEdited, entryEditAnswer, entryEdited}
 use Rattle.bench.specs.Run.{Call, afterCall, ByteLimits}
 use Rattle.bench.specs.Run.Call.{opening, replacing, pointing, changing, limiting, reporting, storing}
-use Rattle.bench.proofs.Standing.{CircuitFits, circuit-fits, fits-circuit}
+use Rattle.bench.proofs.Standing.{circuit-fits, fits-circuit}
+use Rattle.bench.proofs.Padding.{set-each}
 use Rattle.bench.proofs.EditLaws.{output-there}
 use Rattle.bench.proofs.EntryLaws.{entry-accepted, same-kind}
 use Rattle.bench.proofs.OpenLaws.{listing-accepted}
-use Rattle.bench.proofs.Replacing.{sound-kept}
-
--- what holds of each element, and of one that is put in at its place, holds of each element of the list so changed
-pub set-each : {A : Type 0} (P : ℕ → A → Type 0) (l : List A) (k : ℕ) (x d : A) → P k x → ((j : ℕ) → j < length l → P j (getD l j d))
-    → (j : ℕ) → j < length (set l k x) → P j (getD (set l k x) j d)
-set-each P [] k x d p all j h = absurd (omega arith)
-set-each P (y ∷ l) zero x d p all zero h = p
-set-each P (y ∷ l) zero x d p all (suc j) h = all (suc j) h
-set-each P (y ∷ l) (suc k) x d p all zero h = all zero (omega arith)
-set-each P (y ∷ l) (suc k) x d p all (suc j) h = set-each (λ (i : ℕ). P (suc i)) l k x d p (λ i q. all (suc i) (omega arith)) j (omega arith)
+use Rattle.bench.proofs.Replacing.{sound-after as gate-sound}
 
 pub sound-open : (bytes : List ℕ) (t : Target) (l : Limits) → ByteLimits l → openAnswer bytes t ≡ Done → Sound (openState bytes t l)
 unfolding openAnswer
@@ -98,9 +88,7 @@ Callable (storing room) = Unit {0}
 -- every call
 pub sound-call : (p : Present) (call : Call) → Callable call → SoundPresent p → SoundPresent (afterCall p call)
 sound-call p (opening bytes t l) small ok = sound-after (openAnswer bytes t) (openState bytes t l) p (sound-open bytes t l small) ok
-sound-call nothing (replacing k kind a b) u ok = ok
-sound-call (present s) (replacing k kind a b) u ok =
-    sound-after (gateEditAnswer (present s) k kind a b) (gateEdited s k kind a b) (present s) (sound-kept s k kind a b ok) ok
+sound-call p (replacing k kind a b) u ok = gate-sound p k kind a b ok
 sound-call nothing (pointing j line) u ok = ok
 sound-call (present s) (pointing j line) u ok =
     sound-after (outputEditAnswer (present s) j line) (outputEdited s j line) (present s) (sound-output s ok j line) ok

@@ -1,6 +1,6 @@
 -- What `store` leaves, from what the writer of circuits leaves. Assumes nothing.
-use mathlib.Core.Path.{_≡_, refl, ap, _∙_, sym}
-use mathlib.Core.Bool.{Bool, true, false, cond}
+use mathlib.Core.Path.{_≡_, refl, ap, _∙_}
+use mathlib.Core.Bool.{true, false, cond}
 use mathlib.Core.List.{List, _++_, map}
 use Prim.Native.Nat.{ℕ, _-_}
 use lib.Dec.{leb}
@@ -11,7 +11,6 @@ use Rattle.circuit.specs.declared.Writing.the-variants.{Written, NotWritten}
 use Rattle.circuit.specs.declared.Refusal.the-variants.{Shape, NoRoom, NothingOpen}
 use Rattle.circuit.specs.Lines.{Gate, Listing}
 use Rattle.circuit.specs.Stored.{stored, held, listed}
-use Rattle.circuit.specs.Reading.{shaped}
 use Rattle.circuit.specs.Writing.{writeAnswer, roomAfter, Wrote}
 use Rattle.circuit.proofs.Back.{listed-held}
 use Rattle.bench.specs.declared.Bench.{Bench}

@@ -1,8 +1,8 @@
 -- Two results that meet the promise of a public function, on a bench that stands for something, are equal: answer, bench and each lent byte.
 -- And a bench stands for one thing only. Assumes nothing.
-use mathlib.Core.Path.{_≡_, refl, ap, ap₂, _∙_, sym}
+use mathlib.Core.Path.{_≡_, refl, ap, _∙_, sym}
 use mathlib.Core.Bool.{true, cond, true≢false}
-use mathlib.Core.List.{List, _++_}
+use mathlib.Core.List.{List}
 use Prim.Native.Nat.{ℕ, _-_, _^_}
 use lib.Dec.{leb, eqb}
 use lib.ListN.{length, take, replicate}

@@ -1,5 +1,4 @@
 -- A sequence of calls: what is present after it by the definition, and what it may make of a bench by the promises of the functions.
-use mathlib.Core.Path.{_≡_}
 use mathlib.Core.List.{List, [], _∷_}
 use Prim.Native.Nat.{ℕ, _<_}
 use Rattle.circuit.specs.declared.Answer.{Answer}

@@ -13,6 +13,7 @@ mod target; // target.rt: the target's rules, and what it wants in words
 
 // What stands on the bench. Gate k is `kinds[k]`, `left[k]`, `right[k]`; a line's entry in `depths`, `and_depths` and
 // `values` has the line's number; `wanted` has for each output the values that the target wants. Zeros past the last.
+#[repr(C)]
 pub struct Bench {
     pub is_open: bool,
     pub is_matrix: bool,

@@ -20,6 +20,7 @@ pub struct Circuit {
 }
 
 // A line's values on 256 inputs: input value x at bit x % 64 of word x / 64.
+#[repr(C)]
 pub struct Words {
     pub w0: u64,
     pub w1: u64,

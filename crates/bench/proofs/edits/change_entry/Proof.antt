@@ -1,7 +1,6 @@
 -- `bench::edits::change_entry` meets its contract. Assumes nothing.
 use mathlib.Core.Path.{_≡_, _∙_, sym, subst}
 use mathlib.Core.List.{List}
-use native.Mathlib.Omega.{arith}
 use borrow.Author.Needs.{needs}
 use Prim.Native.Nat.{_%_}
 use lib.ListN.{set}
@@ -11,8 +10,6 @@ use Rattle.bench.specs.Calls.{EntryPromise}
 use Rattle.bench.proofs.EntryLaws.{EntryFits, entry-fits, entryLookOn, entry-refused, entry-done, retargeted}
 use Rattle.bench.proofs.edits.change_entry.Statement.{statement}
 use Rattle.bench.proofs.edits.change_entry.Tie as tie
-use Rattle.bench.proofs.edits.change_entry.Reads as reads
-use Rattle.bench.proofs.edits.change_entry.Lts as lts
 
 look-at-entry-requires : tie.Need-look-at-entry-requires
 look-at-entry-requires c κs = search needs

@@ -7,7 +7,7 @@ use lib.Dec.{ltb}
 use borrow.Author.Tests.{lt-ltb, le-ltb}
 use borrow.Author.Needs.{needs}
 use Rattle.circuit.proofs.Accept.{Shaped}
-use Rattle.bench.specs.Parts.{standing, valueFits, entryLook}
+use Rattle.bench.specs.Parts.{standing, entryLook}
 use Rattle.bench.proofs.Stood.{standing-shaped}
 use Rattle.bench.proofs.edits.look_at_entry.Statement.{statement}
 use Rattle.bench.proofs.edits.look_at_entry.Tie as tie

@@ -10,11 +10,6 @@ use Rattle.bench.proofs.EditLaws.{OutputFits, output-fits, output-refus
 use borrow.Author.Needs.{needs}
 use Rattle.bench.proofs.edits.point_output.Statement.{statement}
 use Rattle.bench.proofs.edits.point_output.Tie as tie
-use Rattle.bench.proofs.edits.point_output.Reads as reads
-use Rattle.bench.proofs.edits.point_output.Lts as lts
-use Rattle.bench.proofs.edits.byte.Reads as byte-reads
-use Rattle.bench.proofs.edits.look_at_output.Reads as look-at-output-reads
-use Rattle.bench.proofs.edits.without_lines.Reads as without-lines-reads
 
 look-at-output-requires : tie.Need-look-at-output-requires
 look-at-output-requires c κs = search needs

@@ -4,10 +4,6 @@ use Rattle.bench.proofs.EditLaws.{limits-open, limits-shut}
 use borrow.Author.Needs.{needs}
 use Rattle.bench.proofs.edits.set_limits.Statement.{statement}
 use Rattle.bench.proofs.edits.set_limits.Tie as tie
-use Rattle.bench.proofs.edits.set_limits.Reads as reads
-use Rattle.bench.proofs.edits.set_limits.Lts as lts
-use Rattle.bench.proofs.edits.is_standing.Reads as is-standing-reads
-use Rattle.bench.proofs.edits.without_lines.Reads as without-lines-reads
 
 is-standing-requires : tie.Need-is-standing-requires
 is-standing-requires c κs = search needs

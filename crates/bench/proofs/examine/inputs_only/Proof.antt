@@ -1,18 +1,15 @@
 -- `inputs_only`: the inputs so far, and nothing past them.
 use borrow.Author.Needs.{needs}
 use native.Mathlib.Omega.{arith}
-use native.Mathlib.Numerals.{add-one}
-use mathlib.Core.Path.{_≡_, refl, ap, _∙_, sym}
+use mathlib.Core.Path.{_≡_, refl, ap, _∙_}
 use mathlib.Core.List.{List}
-use Prim.Native.Nat.{ℕ, _≤_, _<_, _-_, _+_}
-use lib.ListN.{getD, take, set}
-use lib.Seq.{take-suc}
+use Prim.Native.Nat.{ℕ, _≤_, _-_}
+use lib.ListN.{take, set}
 use Rattle.circuit.specs.declared.Words.{Words}
 use Rattle.circuit.specs.Gate.{noWords}
 use Rattle.circuit.specs.Lines.{inputWords}
 use Rattle.bench.specs.Held.{padded}
-use Rattle.bench.proofs.Padding.{padded-put}
-use Rattle.bench.proofs.Examining.{inputs-length}
+use Rattle.bench.proofs.Padding.{padded-take}
 use Rattle.bench.proofs.examine.inputs_only.Statement.{statement}
 use Rattle.bench.proofs.examine.inputs_only.Tie as tie
 
@@ -21,13 +18,6 @@ Inv-loop n values₀ i₀ values i = (i ≤ n) × (values ≡ padded (take i inp
 
 abbrev μ-loop : tie.MeasureT-loop
 μ-loop n values₀ i₀ values i = n - i
-
--- one input more
-next : (i : ℕ) → i < 8 → set (padded (take i inputWords) 256 noWords) i (getD inputWords i noWords) ≡ padded (take (i + 1) inputWords) 256 noWords
-next i h =
-    padded-put noWords 256 (take i inputWords) (getD inputWords i noWords) i (inputs-length i (omega arith)) (omega arith)
-    ∙ ap (λ (l : List Words). padded l 256 noWords)
-    (sym (ap (λ (x : ℕ). take x inputWords) (add-one i) ∙ take-suc inputWords i noWords h))
 
 loop-holds : tie.Need-loop-holds Inv-loop μ-loop
 loop-holds c = (omega arith, refl)
@@ -54,7 +44,7 @@ loop-again c =
       search needs,
       ap (λ (l : List Words). set l i (c .input-words .result)) (h .loop .inv .1)
           ∙ ap (λ (w : Words). set (padded (take i inputWords) 256 noWords) i w) (c .input-words .ensures)
-          ∙ next i (omega arith),
+          ∙ padded-take noWords 256 inputWords i (omega arith) (omega arith),
     )
 
 returns : tie.Need-returns Inv-loop μ-loop

@@ -7,8 +7,6 @@ use Rattle.bench.specs.Parts.{targetOf, limits}
 use Rattle.bench.proofs.OpenLaws.{read-shaped, open-refused, open-done, open-unread, open-read, open-short, open-placed}
 use Rattle.bench.proofs.opening.open_with.Statement.{statement}
 use Rattle.bench.proofs.opening.open_with.Tie as tie
-use Rattle.bench.proofs.opening.open_with.Reads as reads
-use Rattle.bench.proofs.opening.open_with.Lts as lts
 
 read-requires : tie.Need-read-requires
 read-requires c κs = search needs

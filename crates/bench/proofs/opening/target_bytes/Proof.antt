@@ -7,7 +7,7 @@ use lib.ListN.{length, getD, set, take}
 use lib.Seq.{take-length}
 use borrow.Author.Needs.{needs}
 use Rattle.bench.specs.Held.{padded}
-use Rattle.bench.proofs.OpenLaws.{padded-take}
+use Rattle.bench.proofs.Padding.{padded-take}
 use Rattle.bench.proofs.opening.target_bytes.Statement.{statement}
 use Rattle.bench.proofs.opening.target_bytes.Tie as tie
 
@@ -37,7 +37,7 @@ loop-again c =
     let h = c .before .before in
     let bytes = h .before .args .bytes .now in
     let i = h .loop .i in
-    (search needs, ap (λ (l : List ℕ). set l i (getD bytes i 0)) (h .loop .inv .1) ∙ padded-take bytes 0 256 i (omega arith) (omega arith))
+    (search needs, ap (λ (l : List ℕ). set l i (getD bytes i 0)) (h .loop .inv .1) ∙ padded-take 0 256 bytes i (omega arith) (omega arith))
 
 returns : tie.Need-returns Inv-loop μ-loop
 returns c =

@@ -6,8 +6,6 @@ use borrow.Author.Needs.{needs}
 use Rattle.bench.proofs.StoreLaws.{stored-open, stored-shut}
 use Rattle.bench.proofs.storing.store.Statement.{statement}
 use Rattle.bench.proofs.storing.store.Tie as tie
-use Rattle.bench.proofs.storing.store.Reads as reads
-use Rattle.bench.proofs.storing.store.Lts as lts
 
 is-standing-requires : tie.Need-is-standing-requires
 is-standing-requires c κs = search needs

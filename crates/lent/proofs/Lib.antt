@@ -1,0 +1,2 @@
+-- The shapes of the lent bench and its answers.
+pub mod OnBench

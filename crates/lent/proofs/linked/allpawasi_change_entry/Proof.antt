@@ -1,0 +1,17 @@
+-- `lent::linked::allpawasi_change_entry` meets its contract: it does with the bench that is lent what the form by value does. Assumes nothing.
+use Rattle.coded.specs.Coded.{EntryCode}
+use mir.Syntax.{w64}
+use Rattle.lending.proofs.Further.{none, number}
+use Rattle.lending.proofs.Edits.{edited-by}
+use Rattle.lent.proofs.OnBench.{editedNumbers}
+use Rattle.coded.proofs.change_entry.Symbol as inner
+use Rattle.coded.proofs.change_entry.Met.{met}
+use Rattle.lent.proofs.linked.allpawasi_change_entry.Key.{name}
+use Rattle.lent.proofs.linked.allpawasi_change_entry.Statement.{statement}
+use Rattle.lent.proofs.linked.allpawasi_change_entry.Code as code
+
+pub allpawasi-change-entry-spec : {M : Type 1} → statement M
+unfolding code.routine
+allpawasi-change-entry-spec 𝓤 H 𝓜 𝓖 𝓡 =
+    edited-by editedNumbers (number w64 (number w64 none)) (λ _ p a r q. EntryCode p (a .0) (a .1 .0) r q) 𝓤 H 𝓜 𝓖 𝓡
+    code.env name inner.name inner.routine (code.unfolded 𝓤 H 𝓜 𝓡) code.calls-coded·change-entry (met 𝓤 H 𝓜 𝓖 𝓡)

@@ -1,0 +1,93 @@
+// The outer calls, on a bench that is lent to be changed where it stands. Each is thin: the form by value does the work.
+ghost use Rattle.bench.specs.Target.{matrix, table};
+ghost use Rattle.bench.specs.Parts.{limits};
+ghost use Rattle.bench.specs.Calls.{OpenPromise, GatePromise, OutputPromise, EntryPromise, LimitsPromise, ReportPromise, StorePromise};
+use bench::Bench;
+use bench::Edit;
+use bench::Reported;
+use circuit::Answer;
+use circuit::Writing;
+
+pub mod linked; // linked.rt: the same with numbers for answers, for other languages
+
+// Opens a circuit with a matrix for its target.
+pub fn open_matrix(
+    bench: &mut Bench,
+    bytes: &[u8],
+    rows: &[u8],
+    gates: u8,
+    depth: u8,
+    ands: u8,
+) -> Answer
+    ensures { λ r. ⌜ OpenPromise (now (bench .entry)) (now (bytes .entry)) (matrix (now (rows .entry))) (limits gates depth ands) r (now (bench .exit)) ⌝ }
+{
+    let done = bench::opening::open_matrix(*bench, bytes, rows, gates, depth, ands);
+    *bench = done.bench;
+    done.answer
+}
+
+// Opens a circuit with a table for its target.
+pub fn open_table(
+    bench: &mut Bench,
+    bytes: &[u8],
+    entries: &[u8],
+    gates: u8,
+    depth: u8,
+    ands: u8,
+) -> Answer
+    ensures { λ r. ⌜ OpenPromise (now (bench .entry)) (now (bytes .entry)) (table (now (entries .entry))) (limits gates depth ands) r (now (bench .exit)) ⌝ }
+{
+    let done = bench::opening::open_table(*bench, bytes, entries, gates, depth, ands);
+    *bench = done.bench;
+    done.answer
+}
+
+// Replaces gate k. The answer lists the lines that were examined again.
+pub fn replace_gate(bench: &mut Bench, k: usize, kind: usize, a: usize, b: usize) -> Edit
+    ensures { λ r. ⌜ GatePromise (now (bench .entry)) k kind a b r (now (bench .exit)) ⌝ }
+{
+    let done = bench::edits::replace_gate(*bench, k, kind, a, b);
+    *bench = done.bench;
+    done.edit
+}
+
+// Points output j at a line.
+pub fn point_output(bench: &mut Bench, j: usize, line: usize) -> Edit
+    ensures { λ r. ⌜ OutputPromise (now (bench .entry)) j line r (now (bench .exit)) ⌝ }
+{
+    let done = bench::edits::point_output(*bench, j, line);
+    *bench = done.bench;
+    done.edit
+}
+
+// Changes row i of a matrix, or the entry of input value i of a table.
+pub fn change_entry(bench: &mut Bench, i: usize, value: usize) -> Edit
+    ensures { λ r. ⌜ EntryPromise (now (bench .entry)) i value r (now (bench .exit)) ⌝ }
+{
+    let done = bench::edits::change_entry(*bench, i, value);
+    *bench = done.bench;
+    done.edit
+}
+
+// Sets the three limits.
+pub fn set_limits(bench: &mut Bench, gates: u8, depth: u8, ands: u8) -> Edit
+    ensures { λ r. ⌜ LimitsPromise (now (bench .entry)) (limits gates depth ands) r (now (bench .exit)) ⌝ }
+{
+    let done = bench::edits::set_limits(*bench, gates, depth, ands);
+    *bench = done.bench;
+    done.edit
+}
+
+// The report of what stands on the bench.
+pub fn report(bench: &Bench) -> Reported
+    ensures { λ r. ⌜ ReportPromise (now (bench .entry)) r ⌝ }
+{
+    bench::reporting::report(*bench)
+}
+
+// The stored bytes first in the room, and how many; the rest of the room stays.
+pub fn store(bench: &Bench, room: &mut [u8]) -> Writing
+    ensures { λ r. ⌜ StorePromise (now (bench .entry)) (now (room .entry)) r (now (room .exit)) ⌝ }
+{
+    bench::storing::store(*bench, room)
+}

@@ -1,0 +1,108 @@
+// What other languages link: the outer calls on a lent bench, with numbers for answers. A bench of zeros has nothing open.
+ghost use Rattle.bench.specs.Target.{matrix, table};
+ghost use Rattle.bench.specs.Parts.{limits};
+ghost use Rattle.coded.specs.Coded.{OpenCode, GateCode, OutputCode, EntryCode, LimitsCode, ReportCodePromise, StoreCode};
+use bench::Bench;
+use coded::EditNumbers;
+use coded::ReportNumbers;
+
+// Opens a circuit with a matrix for its target.
+#[no_mangle]
+pub extern "C" fn allpawasi_open_matrix(
+    bench: &mut Bench,
+    bytes: &[u8],
+    rows: &[u8],
+    gates: u8,
+    depth: u8,
+    ands: u8,
+) -> usize
+    ensures { λ r. ⌜ OpenCode (now (bench .entry)) (now (bytes .entry)) (matrix (now (rows .entry))) (limits gates depth ands) r (now (bench .exit)) ⌝ }
+{
+    let done = coded::open_matrix(*bench, bytes, rows, gates, depth, ands);
+    *bench = done.bench;
+    done.refusal
+}
+
+// Opens a circuit with a table for its target.
+#[no_mangle]
+pub extern "C" fn allpawasi_open_table(
+    bench: &mut Bench,
+    bytes: &[u8],
+    entries: &[u8],
+    gates: u8,
+    depth: u8,
+    ands: u8,
+) -> usize
+    ensures { λ r. ⌜ OpenCode (now (bench .entry)) (now (bytes .entry)) (table (now (entries .entry))) (limits gates depth ands) r (now (bench .exit)) ⌝ }
+{
+    let done = coded::open_table(*bench, bytes, entries, gates, depth, ands);
+    *bench = done.bench;
+    done.refusal
+}
+
+// Replaces gate k. The answer lists the lines that were examined again.
+#[no_mangle]
+pub extern "C" fn allpawasi_replace_gate(
+    bench: &mut Bench,
+    k: usize,
+    kind: usize,
+    a: usize,
+    b: usize,
+) -> EditNumbers
+    ensures { λ r. ⌜ GateCode (now (bench .entry)) k kind a b r (now (bench .exit)) ⌝ }
+{
+    let done = coded::replace_gate(*bench, k, kind, a, b);
+    *bench = done.bench;
+    done.edit
+}
+
+// Points output j at a line.
+#[no_mangle]
+pub extern "C" fn allpawasi_point_output(bench: &mut Bench, j: usize, line: usize) -> EditNumbers
+    ensures { λ r. ⌜ OutputCode (now (bench .entry)) j line r (now (bench .exit)) ⌝ }
+{
+    let done = coded::point_output(*bench, j, line);
+    *bench = done.bench;
+    done.edit
+}
+
+// Changes row i of a matrix, or the entry of input value i of a table.
+#[no_mangle]
+pub extern "C" fn allpawasi_change_entry(bench: &mut Bench, i: usize, value: usize) -> EditNumbers
+    ensures { λ r. ⌜ EntryCode (now (bench .entry)) i value r (now (bench .exit)) ⌝ }
+{
+    let done = coded::change_entry(*bench, i, value);
+    *bench = done.bench;
+    done.edit
+}
+
+// Sets the three limits.
+#[no_mangle]
+pub extern "C" fn allpawasi_set_limits(
+    bench: &mut Bench,
+    gates: u8,
+    depth: u8,
+    ands: u8,
+) -> EditNumbers
+    ensures { λ r. ⌜ LimitsCode (now (bench .entry)) (limits gates depth ands) r (now (bench .exit)) ⌝ }
+{
+    let done = coded::set_limits(*bench, gates, depth, ands);
+    *bench = done.bench;
+    done.edit
+}
+
+// The report of what stands on the bench.
+#[no_mangle]
+pub extern "C" fn allpawasi_report(bench: &Bench) -> ReportNumbers
+    ensures { λ r. ⌜ ReportCodePromise (now (bench .entry)) r ⌝ }
+{
+    coded::report(*bench)
+}
+
+// The stored bytes first in the room, and how many; or 65,536 times the refusal's number, and the room as it was.
+#[no_mangle]
+pub extern "C" fn allpawasi_store(bench: &Bench, room: &mut [u8]) -> usize
+    ensures { λ r. ⌜ StoreCode (now (bench .entry)) (now (room .entry)) r (now (room .exit)) ⌝ }
+{
+    coded::store(*bench, room)
+}
