@@ -1,4 +1,4 @@
-//! The proved library as the comparisons call it, and the random circuits that they use.
+//! Random circuits, targets and calls, for comparing the proved library with the independent program.
 
+pub mod calls;
 pub mod circuits;
-pub mod proved;

@@ -1,6 +1,6 @@
 //! The distance query: refusals, none, and the fewest gates, on small and large bases.
 
-use compare::proved::distance;
+use allpawasi::distance;
 use reference::distance as theirs;
 use reference::rng::Rng;
 

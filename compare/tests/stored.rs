@@ -1,7 +1,7 @@
 //! Reading stored bytes and storing them again: refusal numbers, bytes, and every byte of the room.
 
 use compare::circuits::{any_circuit, circuit, damaged};
-use compare::proved::restore;
+use allpawasi::restore;
 use reference::circuit::{read, store, write};
 use reference::rng::Rng;
 

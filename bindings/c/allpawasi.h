@@ -1,0 +1,74 @@
+/* Allpawasi for C: the circuit bench, the builder and the distance query, as the proved static library has them.
+ *
+ * Link target/staticlib/liblent.a (`rt staticlib lent`), and libbuilder.a, libdistance.a, libcircuit.a for the calls at
+ * the end. A `const uint8_t *` and the length after it name bytes that may be read; a `uint8_t *` and a length name a room
+ * that may be written. Where a length is 0 the pointer is not followed, but it must not be null: pass any valid address.
+ *
+ * A bench is lent to each call and changed where it stands. A bench of zeros has nothing open:
+ *     allpawasi_bench bench = {0};
+ * Change it by these calls alone. A refused call leaves it, and each lent byte, exactly as it was.
+ *
+ * Refusals are the definition's numbers: 1 shape, 2 length, 3 mark, 4 kind, 5 operand, 6 no such line, 7 not XOR under a
+ * matrix, 8 target, 9 depth above 15, 10 too shallow, 11 room too short, 12 not there, 13 nothing open. */
+#ifndef ALLPAWASI_H
+#define ALLPAWASI_H
+
+#include <stdbool.h>
+#include <stddef.h>
+#include <stdint.h>
+
+typedef struct {
+    uint64_t w0, w1, w2, w3; /* input value x at bit x % 64 of word x / 64 */
+} allpawasi_words;
+
+/* What stands on the bench, to look at: gate k is kinds[k], left[k], right[k]; depths, and_depths and values have an entry
+ * for each of the n + g lines. */
+typedef struct {
+    bool is_open, is_matrix;
+    size_t n, m, g;
+    uint8_t max_gates, max_depth, max_and_depth;
+    uint8_t kinds[248], left[248], right[248], outputs[32], target[256];
+    allpawasi_words wanted[32];
+    uint8_t depths[256], and_depths[256];
+    allpawasi_words values[256];
+} allpawasi_bench;
+
+/* refusal: 0, or why. lines[0] to lines[count - 1] were examined again, in ascending order. */
+typedef struct {
+    size_t refusal, count;
+    uint8_t lines[256];
+} allpawasi_edit;
+
+/* refusal: 0, or why. verdict: 0 pass, 1 wrong (at input and output), 2 over the gate limit, 3 over the depth limit,
+ * 4 over the AND depth limit. */
+typedef struct {
+    size_t refusal, gates, xors, nonlinear, nots, depth, and_depth, verdict, input, output;
+} allpawasi_figures;
+
+/* 0, or why it was refused. */
+size_t allpawasi_open_matrix(allpawasi_bench *bench, const uint8_t *bytes, size_t length, const uint8_t *rows, size_t row_count,
+                             uint8_t max_gates, uint8_t max_depth, uint8_t max_and_depth);
+size_t allpawasi_open_table(allpawasi_bench *bench, const uint8_t *bytes, size_t length, const uint8_t *entries, size_t entry_count,
+                            uint8_t max_gates, uint8_t max_depth, uint8_t max_and_depth);
+
+allpawasi_edit allpawasi_replace_gate(allpawasi_bench *bench, size_t k, size_t kind, size_t a, size_t b);
+allpawasi_edit allpawasi_point_output(allpawasi_bench *bench, size_t j, size_t line);
+allpawasi_edit allpawasi_change_entry(allpawasi_bench *bench, size_t i, size_t value);
+allpawasi_edit allpawasi_set_limits(allpawasi_bench *bench, uint8_t max_gates, uint8_t max_depth, uint8_t max_and_depth);
+
+allpawasi_figures allpawasi_report(const allpawasi_bench *bench);
+
+/* How many bytes stand first in the room, or 65,536 times the refusal's number. The same for restore and build. */
+size_t allpawasi_store(const allpawasi_bench *bench, uint8_t *room, size_t room_length);
+
+/* Reads a stored circuit and stores it again. only: no gate but XOR is allowed. */
+size_t allpawasi_restore(const uint8_t *bytes, size_t length, bool only, uint8_t *room, size_t room_length);
+
+/* Builds an XOR program from a matrix and a depth limit. */
+size_t allpawasi_build(size_t n, const uint8_t *rows, size_t row_count, size_t depth, uint8_t *room, size_t room_length);
+
+/* The fewest XOR gates that make a target over a base; 99 where no program does; 100 and the refusal's number. */
+uint64_t allpawasi_distance(size_t n, const uint8_t *masks, size_t mask_count, const uint8_t *depths, size_t depth_count,
+                            size_t target, size_t depth);
+
+#endif

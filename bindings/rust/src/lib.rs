@@ -1,0 +1,148 @@
+//! The circuit bench, the builder and the distance query, proved in Rattle. Nothing is tested here: the proved functions
+//! answer every input, and this only turns their numbers into Rust's own types.
+
+mod raw;
+
+pub use raw::Words;
+
+/// The definition's number of a refusal, 1 to 13.
+pub type Refusal = usize;
+
+/// The three limits; 0 means none allowed.
+#[derive(Clone, Copy, Debug, PartialEq, Eq)]
+pub struct Limits {
+    pub gates: u8,
+    pub depth: u8,
+    pub and_depth: u8,
+}
+
+#[derive(Clone, Copy, Debug, PartialEq, Eq)]
+pub enum Verdict {
+    Wrong { input: usize, output: usize },
+    OverGates,
+    OverDepth,
+    OverAndDepth,
+    Pass,
+}
+
+#[derive(Clone, Copy, Debug, PartialEq, Eq)]
+pub struct Report {
+    pub gates: usize,
+    pub xors: usize,
+    pub nonlinear: usize,
+    pub nots: usize,
+    pub depth: usize,
+    pub and_depth: usize,
+    pub verdict: Verdict,
+}
+
+/// One circuit, one target and three limits, with what is held for each line.
+pub struct Bench(Box<raw::Bench>);
+
+impl Default for Bench {
+    fn default() -> Bench {
+        Bench::new()
+    }
+}
+
+impl Bench {
+    /// A bench with nothing open.
+    pub fn new() -> Bench {
+        Bench(Box::new(raw::Bench::empty()))
+    }
+
+    /// Opens a stored circuit; `rows[j]` is the mask of the inputs summed into output j.
+    pub fn open_matrix(&mut self, bytes: &[u8], rows: &[u8], limits: Limits) -> Result<(), Refusal> {
+        accepted(raw::open_matrix(&mut self.0, bytes, rows, limits))
+    }
+
+    /// Opens a stored circuit; `entries[x]` is the output value on input value x.
+    pub fn open_table(&mut self, bytes: &[u8], entries: &[u8], limits: Limits) -> Result<(), Refusal> {
+        accepted(raw::open_table(&mut self.0, bytes, entries, limits))
+    }
+
+    /// Replaces gate k, and gives the lines that were examined again.
+    pub fn replace_gate(&mut self, k: usize, kind: usize, a: usize, b: usize) -> Result<Vec<u8>, Refusal> {
+        reworked(raw::replace_gate(&mut self.0, k, kind, a, b))
+    }
+
+    /// Points output j at a line.
+    pub fn point_output(&mut self, j: usize, line: usize) -> Result<Vec<u8>, Refusal> {
+        reworked(raw::point_output(&mut self.0, j, line))
+    }
+
+    /// Changes row i of a matrix, or the entry of input value i of a table.
+    pub fn change_entry(&mut self, i: usize, value: usize) -> Result<Vec<u8>, Refusal> {
+        reworked(raw::change_entry(&mut self.0, i, value))
+    }
+
+    pub fn set_limits(&mut self, limits: Limits) -> Result<Vec<u8>, Refusal> {
+        reworked(raw::set_limits(&mut self.0, limits))
+    }
+
+    pub fn report(&self) -> Result<Report, Refusal> {
+        let figures = raw::report(&self.0);
+        accepted(figures.refusal)?;
+        let verdict = match figures.verdict {
+            0 => Verdict::Pass,
+            1 => Verdict::Wrong { input: figures.input, output: figures.output },
+            2 => Verdict::OverGates,
+            3 => Verdict::OverDepth,
+            _ => Verdict::OverAndDepth,
+        };
+        Ok(Report {
+            gates: figures.gates,
+            xors: figures.xors,
+            nonlinear: figures.nonlinear,
+            nots: figures.nots,
+            depth: figures.depth,
+            and_depth: figures.and_depth,
+            verdict,
+        })
+    }
+
+    /// The stored bytes first in the room, and how many.
+    pub fn store(&self, room: &mut [u8]) -> Result<usize, Refusal> {
+        counted(raw::store(&self.0, room))
+    }
+
+    /// What is held for each line: depths, AND depths and values. Empty where nothing is open.
+    pub fn held(&self) -> (&[u8], &[u8], &[Words]) {
+        let lines = self.0.n + self.0.g;
+        (&self.0.depths[..lines], &self.0.and_depths[..lines], &self.0.values[..lines])
+    }
+}
+
+/// Reads a stored circuit and stores it again. `only`: no gate but XOR is allowed.
+pub fn restore(bytes: &[u8], only: bool, room: &mut [u8]) -> Result<usize, Refusal> {
+    counted(raw::restore(bytes, only, room))
+}
+
+/// Builds an XOR program from a matrix and a depth limit: the stored bytes first in the room, and how many.
+pub fn build(n: usize, rows: &[u8], depth: usize, room: &mut [u8]) -> Result<usize, Refusal> {
+    counted(raw::build(n, rows, depth, room))
+}
+
+/// The fewest XOR gates that make a target over a base of masks and depths, or none.
+pub fn distance(n: usize, masks: &[u8], depths: &[u8], target: usize, depth: usize) -> Result<Option<u64>, Refusal> {
+    match raw::distance(n, masks, depths, target, depth) {
+        99 => Ok(None),
+        code if code >= 100 => Err(code as usize - 100),
+        gates => Ok(Some(gates)),
+    }
+}
+
+/// 0, or a refusal's number.
+fn accepted(refusal: usize) -> Result<(), Refusal> {
+    if refusal == 0 { Ok(()) } else { Err(refusal) }
+}
+
+/// A count below 65,536, or 65,536 times a refusal's number.
+fn counted(code: usize) -> Result<usize, Refusal> {
+    if code < 65_536 { Ok(code) } else { Err(code / 65_536) }
+}
+
+fn reworked(edit: raw::Edit) -> Result<Vec<u8>, Refusal> {
+    accepted(edit.refusal)?;
+    Ok(edit.lines[..edit.count].to_vec())
+}

@@ -1,9 +1,0 @@
-// Links the static libraries that `rt staticlib` writes.
-fn main() {
-    let here = std::env::var("CARGO_MANIFEST_DIR").expect("cargo sets it");
-    println!("cargo:rustc-link-search=native={here}/../target/staticlib");
-    for name in ["circuit", "distance"] {
-        println!("cargo:rustc-link-lib=static={name}");
-        println!("cargo:rerun-if-changed=../target/staticlib/lib{name}.a");
-    }
-}

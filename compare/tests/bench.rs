@@ -1,0 +1,61 @@
+//! The bench after random sequences of calls: every answer, every report, and what is held for every line.
+
+use allpawasi::{Limits, Report, Verdict};
+use compare::calls::{open, step, Pair};
+use reference::examine::Target;
+use reference::rng::Rng;
+
+#[test]
+fn random_sequences() {
+    let mut rng = Rng::new(5);
+    for _ in 0..20_000 {
+        let mut pair = Pair::default();
+        if !rng.once_in(8) {
+            open(&mut rng, &mut pair);
+            pair.look();
+        }
+        for _ in 0..rng.between(1, 24) {
+            step(&mut rng, &mut pair);
+            pair.look();
+        }
+    }
+}
+
+fn limits(gates: u8, depth: u8, and_depth: u8) -> Limits {
+    Limits { gates, depth, and_depth }
+}
+
+fn report(pair: &Pair) -> Report {
+    pair.look();
+    pair.ours.report().expect("something is open")
+}
+
+/// K8, K9 and K10: one AND, made NAND, and the table set to that.
+#[test]
+fn an_and_made_nand() {
+    let mut pair = Pair::default();
+    let bytes = [0x53, 0x48, 2, 1, 1, 0x47, 0x54, 2, 0, 1, 0x4F, 0x50, 2];
+    pair.open(&bytes, &Target::Table(vec![0, 0, 0, 1]), limits(1, 1, 1));
+    let opened = report(&pair);
+    assert_eq!((opened.verdict, opened.depth, opened.and_depth), (Verdict::Pass, 1, 1));
+    assert_eq!(pair.ours.replace_gate(0, 3, 0, 1), Ok(vec![2]));
+    assert_eq!(pair.theirs.replace_gate(0, 3, 0, 1), Ok(vec![2]));
+    assert_eq!(report(&pair).verdict, Verdict::Wrong { input: 0, output: 0 });
+    for (i, value) in [1, 1, 1, 0].into_iter().enumerate() {
+        assert_ne!(report(&pair).verdict, Verdict::Pass);
+        pair.change_entry(i, value);
+    }
+    assert_eq!(report(&pair).verdict, Verdict::Pass);
+}
+
+/// K11 and K12: over the depth limit through a gate that feeds nothing, then wrong.
+#[test]
+fn a_gate_that_feeds_nothing() {
+    let mut pair = Pair::default();
+    let bytes = [0x53, 0x48, 2, 1, 2, 0x47, 0x54, 0, 0, 1, 0x47, 0x54, 0, 0, 2, 0x4F, 0x50, 2];
+    pair.open(&bytes, &Target::Matrix(vec![3]), limits(2, 1, 0));
+    let opened = report(&pair);
+    assert_eq!((opened.verdict, opened.depth), (Verdict::OverDepth, 2));
+    pair.point_output(0, 3);
+    assert_eq!(report(&pair).verdict, Verdict::Wrong { input: 1, output: 0 });
+}
