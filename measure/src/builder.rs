@@ -1,0 +1,28 @@
+//! The builder on the AES top layer and on random matrices.
+
+use crate::{keep, row};
+use reference::rng::Rng;
+
+fn one(name: &str, matrices: &[Vec<u8>], d: usize) {
+    let (mut room, mut other) = ([0; 1341], [0; 1341]);
+    row(
+        name,
+        matrices.len(),
+        || matrices.iter().for_each(|rows| keep(allpawasi::build(8, rows, d, &mut room))),
+        || matrices.iter().for_each(|rows| keep(reference::builder::build_into(8, rows, d as u64, &mut other))),
+    );
+}
+
+pub fn measure() {
+    let line = include_str!("../../vectors/matrices.txt").lines().find(|l| l.starts_with("000-aes-top ")).expect("it is there");
+    let hex = line.split(' ').nth(2).expect("rows");
+    let top: Vec<u8> = (0..hex.len() / 2).map(|i| u8::from_str_radix(&hex[2 * i..2 * i + 2], 16).expect("hex")).collect();
+    for d in [3, 4] {
+        one(&format!("build, AES top layer, D={d}"), &vec![top.clone(); 50], d);
+    }
+    let mut rng = Rng::new(9);
+    let matrices: Vec<Vec<u8>> = (0..50).map(|_| rng.rows(8, 32)).collect();
+    for d in [3, 5, 8, 15] {
+        one(&format!("build, 32 random rows of 8, D={d}"), &matrices, d);
+    }
+}
