@@ -1,0 +1,60 @@
+-- `listing::put_four` meets its contract. Assumes nothing.
+use native.Mathlib.Omega.{arith}
+use Rattle.text.proofs.Putting.{put-then}
+use Rattle.listing.specs.Printed.{countsText}
+use borrow.Author.Needs.{needs}
+use Rattle.listing.proofs.put_four.Statement.{statement}
+use Rattle.listing.proofs.put_four.Tie as tie
+
+slice-aggregate-put-labelled : tie.Need-slice-aggregate-put-labelled
+slice-aggregate-put-labelled c = search needs
+
+put-labelled-requires : tie.Need-put-labelled-requires
+put-labelled-requires c κs = search needs
+
+slice-aggregate-put-labelled-2 : tie.Need-slice-aggregate-put-labelled-2
+slice-aggregate-put-labelled-2 c = search needs
+
+put-labelled-requires-2 : tie.Need-put-labelled-requires-2
+put-labelled-requires-2 c κs = search needs
+
+slice-aggregate-put-labelled-3 : tie.Need-slice-aggregate-put-labelled-3
+slice-aggregate-put-labelled-3 c = search needs
+
+put-labelled-requires-3 : tie.Need-put-labelled-requires-3
+put-labelled-requires-3 c κs = search needs
+
+slice-aggregate-put-labelled-4 : tie.Need-slice-aggregate-put-labelled-4
+slice-aggregate-put-labelled-4 c = search needs
+
+put-labelled-requires-4 : tie.Need-put-labelled-requires-4
+put-labelled-requires-4 c κs = search needs
+
+same-length : tie.Need-same-length
+same-length c = search needs
+
+returns : tie.Need-returns
+unfolding countsText
+returns c =
+    let depth = c .before .before in
+    let gates = depth .before .before .before .before .before in
+    let outputs = gates .before .before .before .before .before in
+    let inputs = outputs .before .before .before .before .before in
+    let two = put-then (omega arith) (inputs .put-labelled .ensures .0) (outputs .put-labelled2 .ensures .0) in
+    let three = put-then (omega arith) two (gates .put-labelled3 .ensures .0) in
+    (put-then (omega arith) three (depth .put-labelled4 .ensures .0), search needs)
+
+pub put-four-spec : {M : Type 1} → statement M
+put-four-spec =
+    tie.close
+    (tie.spec
+    slice-aggregate-put-labelled
+    put-labelled-requires
+    slice-aggregate-put-labelled-2
+    put-labelled-requires-2
+    slice-aggregate-put-labelled-3
+    put-labelled-requires-3
+    slice-aggregate-put-labelled-4
+    put-labelled-requires-4
+    same-length
+    returns)

@@ -1,0 +1,49 @@
+-- `listing::put_name` meets its contract. Assumes nothing.
+use borrow.Author.Needs.{needs}
+use Rattle.text.proofs.Putting.{put-as}
+use Rattle.listing.proofs.Names.{input-name, gate-name}
+use Rattle.listing.proofs.put_name.Statement.{statement}
+use Rattle.listing.proofs.put_name.Tie as tie
+
+wide-requires : tie.Need-wide-requires
+wide-requires c κs = search needs
+
+put-numbered-requires : tie.Need-put-numbered-requires
+put-numbered-requires c κs = search needs
+
+put-numbered-requires-2 : tie.Need-put-numbered-requires-2
+put-numbered-requires-2 c κs = search needs
+
+same-length : tie.Need-same-length
+same-length c = search needs
+
+returns : tie.Need-returns
+returns c =
+    let p = c .before .before in
+    let t = p .before .before in
+    let w = t .before .wide .ensures .0 in
+    let a = t .before .before .before .args in
+    (put-as (input-name (a .n) _ _ w (t .if1 .taken)) (p .put-numbered .ensures .0), p .put-numbered .ensures .1)
+
+same-length-2 : tie.Need-same-length-2
+same-length-2 c = search needs
+
+returns-2 : tie.Need-returns-2
+returns-2 c =
+    let p = c .before .before in
+    let t = p .before .before in
+    let w = t .before .wide .ensures .0 in
+    let a = t .before .before .before .args in
+    (put-as (gate-name (a .n) _ _ w (t .if1 .left)) (p .put-numbered2 .ensures .0), p .put-numbered2 .ensures .1)
+
+pub put-name-spec : {M : Type 1} → statement M
+put-name-spec =
+    tie.close
+    (tie.spec
+    wide-requires
+    put-numbered-requires
+    put-numbered-requires-2
+    same-length
+    returns
+    same-length-2
+    returns-2)

@@ -1,0 +1,2 @@
+-- What a circuit looks like as text.
+pub mod Printed

@@ -1,0 +1,288 @@
+// A circuit as text in a lent room, as the build program and the bench's `show` write it; its depth.
+ghost use mathlib.Core.Path.{_≡_};
+ghost use Prim.Native.Nat.{ℕ, _+_, _*_, _<_, _≤_, max};
+ghost use lib.Dec.{leb};
+ghost use lib.ListN.{length};
+ghost use Rattle.circuit.specs.Gate.{kindOf};
+ghost use Rattle.circuit.specs.Lines.{overall, depths};
+ghost use Rattle.circuit.specs.Stored.{gateOf, outOf};
+ghost use Rattle.text.specs.Putting.{Put};
+ghost use Rattle.listing.specs.Printed.{numbered, lineName, joined, turned, negated, formula, gateLine, outputLine, linesTo, labelled, countsText, refusedText, countsSize, linesSize, refusedSize, whereFree, linesIn, depthIn};
+use circuit::Circuit;
+use circuit::Refusal;
+use circuit::gate::second_read;
+use circuit::reader::is_shape;
+use circuit::refusal_no;
+use circuit::wide;
+
+// A letter and a number below 256, as `t0`.
+fn put_numbered(room: &mut [u8], at: usize, letter: u8, k: usize) -> usize
+    requires { ⌜ (at + 21 ≤ length (now room)) × (k < 256) ⌝ }
+    ensures { λ r. ⌜ Put (now (room .entry)) at (numbered letter k) (now (room .exit)) r ⌝ }
+    ensures { λ r. ⌜ r ≤ at + 4 ⌝ }
+{
+    let name = [letter];
+    let next = text::put(room, at, &name);
+    text::put_decimal(room, next, k as u64)
+}
+
+// The name of a line of a circuit with n inputs.
+fn put_name(room: &mut [u8], at: usize, n: usize, line: u8) -> usize
+    requires { ⌜ at + 21 ≤ length (now room) ⌝ }
+    ensures { λ r. ⌜ Put (now (room .entry)) at (lineName n line) (now (room .exit)) r ⌝ }
+    ensures { λ r. ⌜ r ≤ at + 4 ⌝ }
+{
+    let i = wide(line);
+    if i < n {
+        put_numbered(room, at, b'x', i)
+    } else {
+        put_numbered(room, at, b't', i - n)
+    }
+}
+
+// Two operands with a sign between them.
+fn put_joined(room: &mut [u8], at: usize, n: usize, left: u8, sign: u8, right: u8) -> usize
+    requires { ⌜ at + 32 ≤ length (now room) ⌝ }
+    ensures { λ r. ⌜ Put (now (room .entry)) at (joined (lineName n left) sign (lineName n right)) (now (room .exit)) r ⌝ }
+    ensures { λ r. ⌜ r ≤ at + 11 ⌝ }
+{
+    let between = [b' ', sign, b' '];
+    let first = put_name(room, at, n, left);
+    let second = text::put(room, first, &between);
+    put_name(room, second, n, right)
+}
+
+// The same turned over.
+fn put_turned(room: &mut [u8], at: usize, n: usize, left: u8, sign: u8, right: u8) -> usize
+    requires { ⌜ at + 36 ≤ length (now room) ⌝ }
+    ensures { λ r. ⌜ Put (now (room .entry)) at (turned (lineName n left) sign (lineName n right)) (now (room .exit)) r ⌝ }
+    ensures { λ r. ⌜ r ≤ at + 14 ⌝ }
+{
+    let inner = text::put(room, at, b"~(");
+    let end = put_joined(room, inner, n, left, sign, right);
+    text::put(room, end, b")")
+}
+
+// NOT of one operand.
+fn put_not(room: &mut [u8], at: usize, n: usize, line: u8) -> usize
+    requires { ⌜ at + 22 ≤ length (now room) ⌝ }
+    ensures { λ r. ⌜ Put (now (room .entry)) at (negated (lineName n line)) (now (room .exit)) r ⌝ }
+    ensures { λ r. ⌜ r ≤ at + 5 ⌝ }
+{
+    let next = text::put(room, at, b"~");
+    put_name(room, next, n, line)
+}
+
+// The formula of a gate by its kind.
+fn put_formula(room: &mut [u8], at: usize, n: usize, kind: u8, left: u8, right: u8) -> usize
+    requires { ⌜ at + 36 ≤ length (now room) ⌝ }
+    ensures { λ r. ⌜ Put (now (room .entry)) at (formula (kindOf kind) (lineName n left) (lineName n right)) (now (room .exit)) r ⌝ }
+    ensures { λ r. ⌜ r ≤ at + 14 ⌝ }
+{
+    match kind {
+        0..=1 => {
+            if kind == 0 {
+                put_joined(room, at, n, left, b'^', right)
+            } else {
+                put_turned(room, at, n, left, b'^', right)
+            }
+        }
+        2..=3 => {
+            if kind == 2 {
+                put_joined(room, at, n, left, b'&', right)
+            } else {
+                put_turned(room, at, n, left, b'&', right)
+            }
+        }
+        4..=5 => {
+            if kind == 4 {
+                put_joined(room, at, n, left, b'|', right)
+            } else {
+                put_turned(room, at, n, left, b'|', right)
+            }
+        }
+        _ => put_not(room, at, n, left),
+    }
+}
+
+// The line of gate k.
+fn put_gate(room: &mut [u8], at: usize, n: usize, k: usize, kind: u8, left: u8, right: u8) -> usize
+    requires { ⌜ (at + 64 ≤ length (now room)) × (k < 256) ⌝ }
+    ensures { λ r. ⌜ Put (now (room .entry)) at (gateLine n k (record { kind = kind; left = left; right = right })) (now (room .exit)) r ⌝ }
+    ensures { λ r. ⌜ r ≤ at + 22 ⌝ }
+{
+    let named = put_numbered(room, at, b't', k);
+    let start = text::put(room, named, b" = ");
+    let end = put_formula(room, start, n, kind, left, right);
+    text::put(room, end, b"\n")
+}
+
+// The line of output j.
+fn put_output(room: &mut [u8], at: usize, n: usize, j: usize, line: u8) -> usize
+    requires { ⌜ (at + 64 ≤ length (now room)) × (j < 256) ⌝ }
+    ensures { λ r. ⌜ Put (now (room .entry)) at (outputLine n j line) (now (room .exit)) r ⌝ }
+    ensures { λ r. ⌜ r ≤ at + 12 ⌝ }
+{
+    let named = put_numbered(room, at, b'y', j);
+    let start = text::put(room, named, b" = ");
+    let end = put_name(room, start, n, line);
+    text::put(room, end, b"\n")
+}
+
+// The lines of the gates.
+fn put_gates(room: &mut [u8], at: usize, c: Circuit) -> usize
+    requires { ⌜ (at + 22 * c .g + 64 ≤ length (now room)) × (c .g ≤ 248) ⌝ }
+    ensures { λ r. ⌜ Put (now (room .entry)) at (linesTo (λ (k : ℕ). gateLine (c .n) k (gateOf c k)) (c .g)) (now (room .exit)) r ⌝ }
+    ensures { λ r. ⌜ r ≤ at + 22 * c .g ⌝ }
+{
+    let n = c.n;
+    let g = c.g;
+    let mut next = at;
+    let mut k: usize = 0;
+    while k < g {
+        next = put_gate(room, next, n, k, c.kinds[k], c.left[k], c.right[k]);
+        k += 1;
+    }
+    next
+}
+
+// The lines of the outputs.
+fn put_outputs(room: &mut [u8], at: usize, c: Circuit) -> usize
+    requires { ⌜ (at + 12 * c .m + 64 ≤ length (now room)) × (c .m ≤ 32) ⌝ }
+    ensures { λ r. ⌜ Put (now (room .entry)) at (linesTo (λ (j : ℕ). outputLine (c .n) j (outOf c j)) (c .m)) (now (room .exit)) r ⌝ }
+    ensures { λ r. ⌜ r ≤ at + 12 * c .m ⌝ }
+{
+    let n = c.n;
+    let m = c.m;
+    let mut next = at;
+    let mut j: usize = 0;
+    while j < m {
+        next = put_output(room, next, n, j, c.outputs[j]);
+        j += 1;
+    }
+    next
+}
+
+// Whether `size` bytes are free from `at` on in a room of `len`.
+fn is_free(len: usize, at: usize, size: usize) -> bool
+    ensures { λ r. ⌜ r ≡ leb (at + size) len ⌝ }
+{
+    if len < size {
+        return false;
+    }
+    if len - size < at {
+        return false;
+    }
+    true
+}
+
+// A label and a number.
+fn put_labelled(room: &mut [u8], at: usize, label: &[u8], x: usize) -> usize
+    requires { ⌜ at + length (now label) + 20 ≤ length (now room) ⌝ }
+    ensures { λ r. ⌜ Put (now (room .entry)) at (labelled (now (label .entry)) x) (now (room .exit)) r ⌝ }
+    ensures { λ r. ⌜ r ≤ at + length (now (label .entry)) + 20 ⌝ }
+{
+    let next = text::put(room, at, label);
+    text::put_decimal(room, next, x as u64)
+}
+
+// The counts that begin a listing, with no end of line, since `show` has more to say there.
+fn put_four(room: &mut [u8], n: usize, m: usize, g: usize, depth: u8) -> usize
+    requires { ⌜ countsSize ≤ length (now room) ⌝ }
+    ensures { λ r. ⌜ Put (now (room .entry)) 0 (countsText n m g depth) (now (room .exit)) r ⌝ }
+    ensures { λ r. ⌜ r ≤ countsSize ⌝ }
+{
+    let inputs = put_labelled(room, 0, b"inputs ", n);
+    let outputs = put_labelled(room, inputs, b" outputs ", m);
+    let gates = put_labelled(room, outputs, b" gates ", g);
+    put_labelled(room, gates, b" depth ", depth as usize)
+}
+
+// The counts at the start of the room, or nothing where it is shorter than 128 bytes.
+pub fn put_counts(room: &mut [u8], n: usize, m: usize, g: usize, depth: u8) -> usize
+    ensures { λ r. ⌜ Put (now (room .entry)) 0 (whereFree (length (now (room .entry))) 0 countsSize (countsText n m g depth)) (now (room .exit)) r ⌝ }
+    ensures { λ r. ⌜ r ≤ countsSize ⌝ }
+{
+    if is_free(room.len(), 0, 128) {
+        put_four(room, n, m, g, depth)
+    } else {
+        0
+    }
+}
+
+// The lines of the gates, then of the outputs, from `at` on, or nothing where fewer than 6,000 bytes are free.
+pub fn put_lines(room: &mut [u8], at: usize, c: Circuit) -> usize
+    ensures { λ r. ⌜ Put (now (room .entry)) at (whereFree (length (now (room .entry))) at linesSize (linesIn c)) (now (room .exit)) r ⌝ }
+    ensures { λ r. ⌜ r ≤ at + linesSize ⌝ }
+{
+    let n = c.n;
+    let m = c.m;
+    let g = c.g;
+    if is_free(room.len(), at, 6000) {
+        if is_shape(n, m, g) {
+            let next = put_gates(room, at, c);
+            return put_outputs(room, next, c);
+        }
+    }
+    at
+}
+
+// `refused` and the number at the start of the room, or nothing where it is shorter than 32 bytes.
+pub fn put_refused(room: &mut [u8], why: Refusal) -> usize
+    ensures { λ r. ⌜ Put (now (room .entry)) 0 (whereFree (length (now (room .entry))) 0 refusedSize (refusedText why)) (now (room .exit)) r ⌝ }
+    ensures { λ r. ⌜ r ≤ refusedSize ⌝ }
+{
+    if is_free(room.len(), 0, 32) {
+        let next = put_labelled(room, 0, b"refused ", refusal_no(why));
+        text::put(room, next, b"\n")
+    } else {
+        0
+    }
+}
+
+// One more than the deeper of two depths.
+fn above(a: u8, b: u8) -> u8
+    requires { ⌜ (a < 255) × (b < 255) ⌝ }
+    ensures { λ r. ⌜ r ≡ max a b + 1 ⌝ }
+{
+    if a < b { b + 1 } else { a + 1 }
+}
+
+// The greater of two depths.
+fn greater(a: u8, b: u8) -> u8
+    ensures { λ r. ⌜ r ≡ max a b ⌝ }
+{
+    if a < b { b } else { a }
+}
+
+// The greatest depth of a line. A line that is not there counts as 0, and no depth passes the number of gates.
+fn deepest(c: Circuit) -> u8
+    requires { ⌜ (c .n ≤ 8) × (c .g ≤ 248) ⌝ }
+    ensures { λ r. ⌜ r ≡ overall (depths (c .n) (gateOf c) (c .g)) ⌝ }
+{
+    let n = c.n;
+    let g = c.g;
+    let mut deep = [0u8; 256];
+    let mut most: u8 = 0;
+    let mut k: usize = 0;
+    while k < g {
+        let left = c.left[k];
+        let first = wide(left);
+        let second = wide(second_read(c.kinds[k], left, c.right[k]));
+        let depth = above(deep[first], deep[second]);
+        deep[n + k] = depth;
+        most = greater(most, depth);
+        k += 1;
+    }
+    most
+}
+
+// The circuit's depth: the greatest over all its lines.
+pub fn depth_of(c: Circuit) -> u8
+    ensures { λ r. ⌜ r ≡ depthIn c ⌝ }
+{
+    let n = c.n;
+    let m = c.m;
+    let g = c.g;
+    if is_shape(n, m, g) { deepest(c) } else { 0 }
+}
