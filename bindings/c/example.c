@@ -1,0 +1,39 @@
+/* A designer's morning in C: build an XOR program, open it, break a gate, look, mend it, store. */
+#include "allpawasi.h"
+#include <stdio.h>
+
+static void tell(const allpawasi_bench *bench) {
+    allpawasi_figures f = allpawasi_report(bench);
+    if (f.refusal) {
+        printf("refused %zu\n", f.refusal);
+    } else if (f.verdict == 1) {
+        printf("wrong at input %zu, output %zu\n", f.input, f.output);
+    } else {
+        printf("%s, %zu gates, depth %zu\n", f.verdict == 0 ? "pass" : "over a limit", f.gates, f.depth);
+    }
+}
+
+int main(void) {
+    static allpawasi_bench bench; /* zeros: nothing is open */
+    const uint8_t rows[] = {3, 7, 6};
+    uint8_t room[1341];
+
+    tell(&bench);
+    size_t built = allpawasi_build(3, rows, 3, 2, room, sizeof room);
+    printf("built %zu bytes\n", built);
+    printf("open %zu\n", allpawasi_open_matrix(&bench, room, built, rows, 3, 3, 2, 0));
+    tell(&bench);
+
+    allpawasi_edit edit = allpawasi_replace_gate(&bench, 0, 0, 0, 2);
+    printf("reworked");
+    for (size_t i = 0; i < edit.count; i++) printf(" %d", edit.lines[i]);
+    printf("\n");
+    tell(&bench);
+
+    printf("refused %zu\n", allpawasi_replace_gate(&bench, 0, 2, 0, 1).refusal);
+    allpawasi_replace_gate(&bench, 0, 0, 0, 1);
+    tell(&bench);
+    printf("stored %zu bytes\n", allpawasi_store(&bench, room, sizeof room));
+    printf("distance %llu\n", (unsigned long long)allpawasi_distance(3, rows, 3, (const uint8_t[]){0, 0, 0}, 3, 5, 4));
+    return 0;
+}

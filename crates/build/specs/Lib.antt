@@ -1,0 +1,2 @@
+-- What the build program writes for what it reads.
+pub mod Answered

@@ -1,0 +1,299 @@
+-- Each step of the rule makes the sum of the distances fall, so it ends with every row made, after no more gates than the first sum of distances.
+use mathlib.Core.Bool.{Bool, true, false, cond, _&&_, _||_}
+use mathlib.Core.List.{List, [], _∷_, _++_, map}
+use mathlib.Core.Logic.{_⊎_, inl, inr, ⊎-elim}
+use mathlib.Core.Path.{_≡_, refl, sym, ap, _∙_, subst}
+use Prim.Native.Nat.{ℕ, zero, suc, _+_, _-_, _*_, _≤_, _<_}
+use native.Mathlib.Decide.{ℕ-discrete}
+use native.Mathlib.Omega.{arith}
+use borrow.Author.Tests.{le-leb, leb-true, eqb-true, eqb-false, eq-eqb, ltb-true, ltb-false}
+use lib.Dec.{leb, ltb, eqb}
+use lib.ListN.{length}
+use Rattle.distance.specs.Base.{Line, Gate, gate, made, run, Reads, Small, Program}
+use Rattle.distance.specs.Distance.{Gap, gates, never}
+use Rattle.distance.proofs.Tests.{clash, both-cases}
+use Rattle.builder.specs.Rule.{Row, reach, count, away, distances, sum, deepest, makes, firstIn, firstPair, immediate, Best, start, better, scored, consider, alongLine, allPairs, distancesAfter, bestPair, nextGate, greedy}
+use Rattle.builder.specs.Kept.{Sound, Sounds, Alive}
+use Rattle.builder.proofs.Reach.{UpTo, small-made, reach-fewest, reach-more, reach-program, reach-pair, now-made, last-makes}
+
+-- a row is among the rows
+pub data In (r : Row) : List Row → Type 0 where
+  here : {rs : List Row} → In r (r ∷ rs)
+  there : {t : Row} {rs : List Row} → In r rs → In r (t ∷ rs)
+
+sound-in : {r : Row} {rs : List Row} → Sounds rs → In r rs → Sound r
+sound-in s here = s .0
+sound-in s (there i) = sound-in (s .1) i
+
+pub limit-le : {r : Row} {rs : List Row} → In r rs → r .limit ≤ deepest rs
+limit-le here = omega arith
+limit-le (there i) = omega (arith, limit-le i)
+
+-- ---- one line more
+module _ (ls : List Line) (l : Line) (small : Small 8 ls) (smaller : Small 8 (ls ++ (l ∷ []))) where
+  pub alive-more : (rs : List Row) → Sounds rs → Alive ls rs → Alive (ls ++ (l ∷ [])) rs
+  alive-more [] s a = tt
+  alive-more (r ∷ rs) s a = let u = reach-more ls l r small smaller (s .0) (a .0 .0) (a .0 .1) in ((u .at, u .is), alive-more rs (s .1) (a .1))
+
+  away-more : (r : Row) (g : ℕ) → Sound r → reach ls r ≡ gates g → away (ls ++ (l ∷ [])) r ≤ away ls r
+  away-more r g s e = let u = reach-more ls l r small smaller s g e in omega (arith, ap count (u .is), ap count e, u .le)
+
+  sum-more : (rs : List Row) → Sounds rs → Alive ls rs → sum (distances (ls ++ (l ∷ [])) rs) ≤ sum (distances ls rs)
+  sum-more [] s a = omega arith
+  sum-more (r ∷ rs) s a = omega (arith, away-more r (a .0 .0) (s .0) (a .0 .1), sum-more rs (s .1) (a .1))
+
+  sum-less : (u : Row) (rs : List Row) → Sounds rs → Alive ls rs → In u rs → away (ls ++ (l ∷ [])) u < away ls u → sum (distances (ls ++ (l ∷ [])) rs) < sum (distances ls rs)
+  sum-less u (r ∷ rs) s a here h = omega (arith, sum-more rs (s .1) (a .1))
+  sum-less u (r ∷ rs) s a (there i) h = omega (arith, away-more r (a .0 .0) (s .0) (a .0 .1), sum-less u rs (s .1) (a .1) i h)
+
+-- ---- the best pair is no worse than any pair
+module _ (ls : List Line) (rs : List Row) where
+  -- the sum of the distances after a gate
+  abbrev after : Gate → ℕ
+  after g = sum (distancesAfter ls rs g)
+
+  record Valid (x : Best) : Type 0 where
+    is : sum (distances (ls ++ (made ls (x .pair) ∷ [])) rs) ≡ x .total
+    one : x .pair .a < length ls
+    two : x .pair .b < length ls
+    deep : made ls (x .pair) .depth ≤ deepest rs
+
+  abbrev Fair : Best → Type 0
+  Fair b = (4096 ≤ b .total) ⊎ Valid b
+
+  -- what a pair leaves: no larger a sum, none larger than its own, and a fair one
+  record Left (g : Gate) (b r : Best) : Type 0 where
+    less : r .total ≤ b .total
+    own : made ls g .depth ≤ deepest rs → r .total ≤ after g
+    fair : Fair r
+
+  better-le : (x b : Best) → better x b ≡ true → x .total ≤ b .total
+  better-le x b e = go (ltb (x .total) (b .total)) refl
+    where
+      go : (y : Bool) → ltb (x .total) (b .total) ≡ y → x .total ≤ b .total
+      go true w = omega (arith, ltb-true (x .total) (b .total) w)
+      go false w =
+          let q : (eqb (x .total) (b .total) && ltb (b .square) (x .square)) ≡ true = sym (ap (λ (u : Bool). u || (eqb (x .total) (b .total) && ltb (b .square) (x .square))) w) ∙ e in
+          omega (arith, eqb-true (x .total) (b .total) (both-cases (eqb (x .total) (b .total)) (ltb (b .square) (x .square)) q .0))
+
+  better-ge : (x b : Best) → better x b ≡ false → b .total ≤ x .total
+  better-ge x b e = go (ltb (x .total) (b .total)) refl
+    where
+      go : (y : Bool) → ltb (x .total) (b .total) ≡ y → b .total ≤ x .total
+      go true w = absurd (clash (better x b) (ap (λ (u : Bool). u || (eqb (x .total) (b .total) && ltb (b .square) (x .square))) w) e)
+      go false w = ltb-false (x .total) (b .total) w
+
+  consider-left : (g : Gate) (b : Best) → g .a < length ls → g .b < length ls → Fair b → Left g b (consider ls (distancesAfter ls rs) (deepest rs) g b)
+  consider-left g b ha hb f = go (leb (made ls g .depth) (deepest rs)) refl (better (scored (distances (ls ++ (made ls g ∷ [])) rs) g) b) refl
+    where
+      go : (y : Bool) → leb (made ls g .depth) (deepest rs) ≡ y → (z : Bool) → better (scored (distances (ls ++ (made ls g ∷ [])) rs) g) b ≡ z
+          → Left g b (cond y (cond z (scored (distances (ls ++ (made ls g ∷ [])) rs) g) b) b)
+      go true p true q =
+          record {
+            less = better-le (scored (distances (ls ++ (made ls g ∷ [])) rs) g) b q;
+            own = λ h. omega arith;
+            fair = inr (record { is = refl; one = ha; two = hb; deep = leb-true (made ls g .depth) (deepest rs) p });
+          }
+      go true p false q = record { less = omega arith; own = λ h. better-ge (scored (distances (ls ++ (made ls g ∷ [])) rs) g) b q; fair = f }
+      go false p z q =
+          record { less = omega arith; own = λ h. absurd (clash (leb (made ls g .depth) (deepest rs)) (le-leb (made ls g .depth) (deepest rs) h) p); fair = f }
+
+  record Line-left (i j f : ℕ) (b r : Best) : Type 0 where
+    less : r .total ≤ b .total
+    own : (v : ℕ) → j ≤ v → v < j + f → made ls (gate i v) .depth ≤ deepest rs → r .total ≤ after (gate i v)
+    fair : Fair r
+
+  line-left : (f i j : ℕ) (b : Best) → i < length ls → j + f ≤ length ls → Fair b → Line-left i j f b (alongLine ls (distancesAfter ls rs) (deepest rs) f i j b)
+  line-left zero i j b hi hj q = record { less = omega arith; own = λ v p r. absurd (omega arith); fair = q }
+  line-left (suc f) i j b hi hj q =
+      let c = consider-left (gate i j) b hi (omega arith) q in
+      let r = line-left f i (suc j) (consider ls (distancesAfter ls rs) (deepest rs) (gate i j) b) hi (omega arith) (c .fair) in
+      record {
+        less = omega (arith, c .less, r .less);
+        own = λ v p s d.
+            elim (ℕ-discrete j v) [
+              | yes w ↦
+                  subst (λ (u : ℕ). alongLine ls (distancesAfter ls rs) (deepest rs) (suc f) i j b .total ≤ after (gate i u)) w
+                  (omega (arith, r .less, c .own (subst (λ (u : ℕ). made ls (gate i u) .depth ≤ deepest rs) (sym w) d)))
+              | no w ↦ r .own v (omega arith) (omega arith) d
+            ];
+        fair = r .fair;
+      }
+
+  record All (i f : ℕ) (b r : Best) : Type 0 where
+    less : r .total ≤ b .total
+    own : (u v : ℕ) → i ≤ u → u < i + f → u < v → v < length ls → made ls (gate u v) .depth ≤ deepest rs → r .total ≤ after (gate u v)
+    fair : Fair r
+
+  all-left : (f i : ℕ) (b : Best) → i + f ≤ length ls → Fair b → All i f b (allPairs ls (distancesAfter ls rs) (deepest rs) f i b)
+  all-left zero i b hi q = record { less = omega arith; own = λ u v p r. absurd (omega arith); fair = q }
+  all-left (suc f) i b hi q =
+      let c = line-left (length ls - suc i) i (suc i) b (omega arith) (omega arith) q in
+      let r = all-left f (suc i) (alongLine ls (distancesAfter ls rs) (deepest rs) (length ls - suc i) i (suc i) b) (omega arith) (c .fair) in
+      record {
+        less = omega (arith, c .less, r .less);
+        own = λ u v p s t w d.
+            elim (ℕ-discrete i u) [
+              | yes e ↦
+                  subst (λ (x : ℕ). allPairs ls (distancesAfter ls rs) (deepest rs) (suc f) i b .total ≤ after (gate x v)) e
+                  (omega (arith, r .less, c .own v (omega arith) (omega arith) (subst (λ (x : ℕ). made ls (gate x v) .depth ≤ deepest rs) (sym e) d)))
+              | no e ↦ r .own u v (omega arith) (omega arith) t w d
+            ];
+        fair = r .fair;
+      }
+
+-- ---- the first pair that makes a row
+module _ (ls : List Line) (u : Row) where
+  record Good (g : Gate) : Type 0 where
+    it : makes u (made ls g) ≡ true
+    one : g .a < length ls
+    two : g .b < length ls
+
+  first-ok : (f i j : ℕ) (g : Gate) → i < length ls → j + f ≤ length ls → Good g → Good (firstIn ls u f i j g)
+  first-ok zero i j g hi hj q = q
+  first-ok (suc f) i j g hi hj q = go (makes u (made ls (gate i j))) refl (first-ok f i (suc j) g hi (omega arith) q)
+    where
+      go : (x : Bool) → makes u (made ls (gate i j)) ≡ x → Good (firstIn ls u f i (suc j) g) → Good (cond x (gate i j) (firstIn ls u f i (suc j) g))
+      go true e r = record { it = e; one = hi; two = omega arith }
+      go false e r = r
+
+  first-hit : (f i j v : ℕ) (g : Gate) → i < length ls → j + f ≤ length ls → j ≤ v → v < j + f → makes u (made ls (gate i v)) ≡ true → Good (firstIn ls u f i j g)
+  first-hit zero i j v g hi hj p q e = absurd (omega arith)
+  first-hit (suc f) i j v g hi hj p q e = go (makes u (made ls (gate i j))) refl (λ h. first-hit f i (suc j) v g hi (omega arith) h (omega arith) e)
+    where
+      go : (x : Bool) → makes u (made ls (gate i j)) ≡ x → (suc j ≤ v → Good (firstIn ls u f i (suc j) g)) → Good (cond x (gate i j) (firstIn ls u f i (suc j) g))
+      go true w r = record { it = w; one = hi; two = omega arith }
+      go false w r =
+          elim (ℕ-discrete j v) [
+            | yes s ↦ absurd (clash (makes u (made ls (gate i j))) (ap (λ (y : ℕ). makes u (made ls (gate i y))) s ∙ e) w)
+            | no s ↦ r (omega arith)
+          ]
+
+  first-pair : (f i x v : ℕ) → i + f ≤ length ls → i ≤ x → x < i + f → x < v → v < length ls → makes u (made ls (gate x v)) ≡ true → Good (firstPair ls u f i)
+  first-pair zero i x v h p q r s e = absurd (omega arith)
+  first-pair (suc f) i x v h p q r s e =
+      elim (ℕ-discrete i x) [
+        | yes w ↦
+            first-hit (length ls - suc i) i (suc i) v (firstPair ls u f (suc i)) (omega arith) (omega arith) (omega arith) (omega arith) (ap (λ (y : ℕ). makes u (made ls (gate y v))) w ∙ e)
+        | no w ↦ first-ok (length ls - suc i) i (suc i) (firstPair ls u f (suc i)) (omega arith) (omega arith) (first-pair f (suc i) x v (omega arith) (omega arith) (omega arith) r s e)
+      ]
+
+-- ---- the next gate
+
+-- a row that is not made yet
+record Far (ls : List Line) (rs : List Row) : Type 0 where
+  one : Row
+  in-it : In one rs
+  less : ℕ
+  is : reach ls one ≡ gates (suc less)
+
+a-row : (ls : List Line) (rs : List Row) → Alive ls rs → 0 < sum (distances ls rs) → Far ls rs
+a-row ls [] a h = absurd (omega arith)
+a-row ls (r ∷ rs) a h = go (a .0 .0) (a .0 .1) (λ k. a-row ls rs (a .1) k)
+  where
+    go : (g : ℕ) → reach ls r ≡ gates g → (0 < sum (distances ls rs) → Far ls rs) → Far ls (r ∷ rs)
+    go zero e f = let s = f (omega (arith, ap count e)) in record { one = s .one; in-it = there (s .in-it); less = s .less; is = s .is }
+    go (suc g) e f = record { one = r; in-it = here; less = g; is = e }
+
+-- what a gate has to be: the sum falls, it reads two lines, and it is not too deep
+pub record Less (ls : List Line) (rs : List Row) (g : Gate) : Type 0 where
+  pub less : sum (distances (ls ++ (made ls g ∷ [])) rs) < sum (distances ls rs)
+  pub one : g .a < length ls
+  pub two : g .b < length ls
+  pub deep : made ls g .depth ≤ deepest rs
+
+module _ (ls : List Line) (rs : List Row) (small : Small 8 ls) (sound : Sounds rs) (alive : Alive ls rs) where
+  abbrev smaller : (g : Gate) → Small 8 (ls ++ (made ls g ∷ []))
+  smaller g = small-made 8 ls g small
+
+  -- a gate after which a row has a program of fewer gates makes the sum fall
+  nearer : (u : Row) (k : ℕ) (g : Gate) → In u rs → reach ls u ≡ gates (suc k) → Program (ls ++ (made ls g ∷ [])) k (u .mask) (u .limit)
+      → sum (distances (ls ++ (made ls g ∷ [])) rs) < sum (distances ls rs)
+  nearer u k g i e p =
+      let f = reach-program (ls ++ (made ls g ∷ [])) u (smaller g) (sound-in sound i) k p in
+      sum-less ls (made ls g) small (smaller g) u rs sound alive i (omega (arith, ap count (f .is), f .le, ap count e))
+
+  best-less : sum (distances ls rs) ≤ 4096 → 0 < sum (distances ls rs) → Less ls rs (bestPair ls rs)
+  best-less cap h =
+      let r = a-row ls rs alive h in
+      let p = reach-pair ls (r .one) small (sound-in sound (r .in-it)) (r .less) (r .is) in
+      let q = nearer (r .one) (r .less) (gate (p .i) (p .j)) (r .in-it) (r .is) (p .program) in
+      let w = all-left ls rs (length ls) 0 start (omega arith) (inl (omega arith)) in
+      let o = w .own (p .i) (p .j) (omega arith) (omega (arith, p .order, p .within)) (p .order) (p .within) (omega (arith, p .depth, limit-le (r .in-it))) in
+      ⊎-elim (λ y. absurd (omega (arith, y, o, q, cap))) (λ y. record { less = omega (arith, y .is, o, q); one = y .one; two = y .two; deep = y .deep }) (w .fair)
+
+  one-less : (u : Row) → In u rs → reach ls u ≡ gates 1 → Less ls rs (firstPair ls u (length ls) 0)
+  one-less u i e =
+      let ok = sound-in sound i in
+      let p = reach-pair ls u small ok 0 e in
+      let pair = gate (p .i) (p .j) in
+      let m = last-makes ls (made ls pair) (u .mask) (u .limit) (reach-fewest ls u small ok 1 e .least) (p .program) in
+      let t : makes u (made ls pair) ≡ true = rw (eq-eqb (made ls pair .mask) (u .mask) (m .0), le-leb (made ls pair .depth) (u .limit) (m .1)) in
+      let g = first-pair ls u (length ls) 0 (p .i) (p .j) (omega arith) (omega arith) (omega (arith, p .order, p .within)) (p .order) (p .within) t in
+      let k = firstPair ls u (length ls) 0 in
+      let b = both-cases (eqb (made ls k .mask) (u .mask)) (leb (made ls k .depth) (u .limit)) (g .it) in
+      let mask = eqb-true (made ls k .mask) (u .mask) (b .0) in
+      let depth = leb-true (made ls k .depth) (u .limit) (b .1) in
+      record {
+        less = nearer u 0 k i e (now-made ls (made ls k) (u .mask) (u .limit) mask depth);
+        one = g .one;
+        two = g .two;
+        deep = omega (arith, depth, limit-le i);
+      }
+
+  immediate-less : (us : List Row) → ((u : Row) → In u us → In u rs) → Alive ls us → (g : Gate) → Less ls rs g → Less ls rs (immediate ls us g)
+  immediate-less [] f al g q = q
+  immediate-less (u ∷ us) f al g q = go (eqb (away ls u) 1) refl (immediate-less us (λ v i. f v (there i)) (al .1) g q)
+    where
+      go : (x : Bool) → eqb (away ls u) 1 ≡ x → Less ls rs (immediate ls us g) → Less ls rs (cond x (firstPair ls u (length ls) 0) (immediate ls us g))
+      go true e r =
+          let c : al .0 .0 ≡ 1 = sym (ap count (al .0 .1)) ∙ eqb-true (away ls u) 1 e in
+          one-less u (f u here) (al .0 .1 ∙ ap gates c)
+      go false e r = r
+
+  pub next-less : sum (distances ls rs) ≤ 4096 → 0 < sum (distances ls rs) → Less ls rs (nextGate ls rs)
+  next-less cap h = immediate-less rs (λ u i. i) alive (bestPair ls rs) (best-less cap h)
+
+-- ---- all the steps
+
+-- no line is deeper than D
+abbrev pub Within : ℕ → List Line → Type 0
+Within D [] = Unit {0}
+Within D (l ∷ ls) = (l .depth ≤ D) × Within D ls
+
+pub within-snoc : (D : ℕ) (ls : List Line) (l : Line) → Within D ls → l .depth ≤ D → Within D (ls ++ (l ∷ []))
+within-snoc D [] l w h = (h, tt)
+within-snoc D (x ∷ ls) l w h = (w .0, within-snoc D ls l (w .1) h)
+
+-- the gates make every row, are at most as many as the first distances sum to, read lines below their own, and are not too deep
+pub record Reached (ls : List Line) (rs : List Row) (gs : List Gate) : Type 0 where
+  pub done : sum (distances (run ls gs) rs) ≡ 0
+  pub few : length gs ≤ sum (distances ls rs)
+  pub reads : Reads ls gs
+  pub alive : Alive (run ls gs) rs
+  pub small : Small 8 (run ls gs)
+  pub deep : (D : ℕ) → deepest rs ≤ D → Within D ls → Within D (run ls gs)
+
+pub enough : (f : ℕ) (ls : List Line) (rs : List Row) → Small 8 ls → Sounds rs → Alive ls rs → sum (distances ls rs) ≤ 4096 → sum (distances ls rs) ≤ f → Reached ls rs (greedy f ls rs)
+enough zero ls rs s z a c h = record { done = omega arith; few = omega arith; reads = tt; alive = a; small = s; deep = λ D p w. w }
+enough (suc f) ls rs s z a c h =
+    let g = nextGate ls rs in
+    go (eqb (sum (distances ls rs)) 0) refl
+    (λ q. enough f (ls ++ (made ls g ∷ [])) rs (small-made 8 ls g s) z (alive-more ls (made ls g) s (small-made 8 ls g s) rs z a) (omega (arith, q .less)) (omega (arith, q .less)))
+  where
+    go : (x : Bool) → eqb (sum (distances ls rs)) 0 ≡ x
+        → (Less ls rs (nextGate ls rs) → Reached (ls ++ (made ls (nextGate ls rs) ∷ [])) rs (greedy f (ls ++ (made ls (nextGate ls rs) ∷ [])) rs))
+        → Reached ls rs (cond x [] (nextGate ls rs ∷ greedy f (ls ++ (made ls (nextGate ls rs) ∷ [])) rs))
+    go true e r = record { done = eqb-true (sum (distances ls rs)) 0 e; few = omega arith; reads = tt; alive = a; small = s; deep = λ D p w. w }
+    go false e r =
+        let k : 0 < sum (distances ls rs) = let ne = eqb-false (sum (distances ls rs)) 0 e in omega arith in
+        let q = next-less ls rs s z a c k in
+        let b = r q in
+        record {
+          done = b .done;
+          few = omega (arith, b .few, q .less);
+          reads = (q .one, q .two, b .reads);
+          alive = b .alive;
+          small = b .small;
+          deep = λ D p w. b .deep D p (within-snoc D ls (made ls (nextGate ls rs)) w (omega (arith, q .deep)));
+        }

@@ -1,0 +1,43 @@
+-- K1 to K5, and the edge of row 255 at D = 2, computed from the definitions.
+use mathlib.Core.List.{List, [], _∷_}
+use mathlib.Core.Path.{_≡_, refl}
+use Prim.Native.Nat.{ℕ}
+use Rattle.circuit.specs.declared.Answer.the-variants.{Done, Refused}
+use Rattle.circuit.specs.declared.Refusal.the-variants.{TooShallow}
+use Rattle.circuit.specs.Lines.{Listing}
+use Rattle.circuit.specs.Stored.{stored, gateBytes, outBytes}
+use Rattle.circuit.specs.Reading.{shaped}
+use Rattle.distance.specs.Base.{gate}
+use Rattle.builder.specs.Rule.{reach, taken, xorGate, circuitOf}
+use Rattle.builder.specs.Call.{built, refusal}
+
+pub k1 : stored (built 3 (3 ∷ 7 ∷ 6 ∷ []) 2)
+    ≡ 0x53 ∷ 0x48 ∷ 3 ∷ 3 ∷ 3 ∷ 0x47 ∷ 0x54 ∷ 0 ∷ 0 ∷ 1 ∷ 0x47 ∷ 0x54 ∷ 0 ∷ 2 ∷ 3 ∷ 0x47 ∷ 0x54 ∷ 0 ∷ 1 ∷ 2 ∷ 0x4F ∷ 0x50 ∷ 3 ∷ 0x4F ∷ 0x50 ∷ 4 ∷ 0x4F ∷ 0x50 ∷ 5 ∷ []
+unfolding reach taken circuitOf built gateBytes outBytes
+k1 = refl
+
+pub k2 : built 3 (3 ∷ 7 ∷ 6 ∷ []) 3 ≡ record { inputs = 3; gates = xorGate (gate 0 1) ∷ xorGate (gate 2 3) ∷ xorGate (gate 0 4) ∷ []; outs = 3 ∷ 4 ∷ 5 ∷ [] }
+unfolding reach taken circuitOf built
+k2 = refl
+
+pub k3 : refusal 3 (3 ∷ 7 ∷ 6 ∷ []) 1 ≡ Refused TooShallow
+unfolding refusal shaped
+k3 = refl
+
+pub k4 : built 4 (7 ∷ 11 ∷ []) 2 ≡ record { inputs = 4; gates = xorGate (gate 0 1) ∷ xorGate (gate 2 4) ∷ xorGate (gate 3 4) ∷ []; outs = 5 ∷ 6 ∷ [] }
+unfolding reach taken circuitOf built
+k4 = refl
+
+pub k5 : stored (built 1 (1 ∷ []) 0) ≡ 0x53 ∷ 0x48 ∷ 1 ∷ 1 ∷ 0 ∷ 0x4F ∷ 0x50 ∷ 0 ∷ []
+unfolding reach taken circuitOf built gateBytes outBytes
+k5 = refl
+
+-- none of these is refused
+pub sound : (refusal 3 (3 ∷ 7 ∷ 6 ∷ []) 2 ≡ Done) × (refusal 3 (3 ∷ 7 ∷ 6 ∷ []) 3 ≡ Done) × (refusal 4 (7 ∷ 11 ∷ []) 2 ≡ Done) × (refusal 1 (1 ∷ []) 0 ≡ Done)
+unfolding refusal shaped
+sound = (refl, refl, refl, refl)
+
+-- row 255 at n = 8 is refused 10 at D = 2, and not at D = 3
+pub edge : (refusal 8 (255 ∷ []) 2 ≡ Refused TooShallow) × (refusal 8 (255 ∷ []) 3 ≡ Done)
+unfolding refusal shaped
+edge = (refl, refl)

@@ -1,0 +1,126 @@
+-- Laws of lists: an array that is filled from the front, and the lines and rows of two parallel lists.
+use mathlib.Core.List.{List, [], _∷_, _++_, map}
+use mathlib.Core.Path.{_≡_, refl, sym, ap, ap₂, _∙_}
+use Prim.Native.Nat.{ℕ, zero, suc, _+_, _-_, _≤_, _<_, max}
+use native.Mathlib.Numerals.{add-one}
+use native.Mathlib.Omega.{arith}
+use lib.Bits.{bitXor}
+use lib.ListN.{length, getD, take, drop, set, replicate, length-append, length-replicate, drop-of-length-le}
+use lib.Seq.{take-suc, take-at, take-length, drop-cons, length-take-le}
+use Rattle.circuit.specs.Lines.{greatest}
+use Rattle.circuit.proofs.LineLaws.{put-next}
+use Rattle.distance.specs.Base.{Line, line, lines, none, Gate, gate, made, Small}
+use Rattle.builder.specs.Rule.{Row, row}
+use Rattle.builder.specs.Kept.{rowsOf, padded}
+
+-- ---- an array that is filled from the front
+pub padded-none : (cap : ℕ) → padded cap [] ≡ replicate cap 0
+unfolding padded
+padded-none cap = let e : cap - 0 ≡ cap = omega arith in ap (λ (x : ℕ). replicate x 0) e
+
+module _ (cap : ℕ) (xs : List ℕ) where
+  pub padded-length : length xs ≤ cap → length (padded cap xs) ≡ cap
+  unfolding padded
+  padded-length h = omega (arith, length-append xs (replicate (cap - length xs) 0), length-replicate {A = ℕ} (cap - length xs) 0)
+
+  pub padded-take : (k : ℕ) → k ≡ length xs → take k (padded cap xs) ≡ xs
+  unfolding padded
+  padded-take k e = take-at xs (replicate (cap - length xs) 0) k (sym e)
+
+  -- one entry more
+  pub padded-put : (k v : ℕ) → k ≡ length xs → k < cap → set (padded cap xs) k v ≡ padded cap (xs ++ (v ∷ []))
+  unfolding padded
+  padded-put k v e h =
+      let p : cap - length xs ≡ suc (cap - suc (length xs)) = omega arith in
+      let q : cap - suc (length xs) ≡ cap - length (xs ++ (v ∷ [])) = omega (arith, length-append xs (v ∷ [])) in
+      ap (λ (x : ℕ). set (xs ++ replicate x 0) k v) p
+      ∙ put-next xs 0 (replicate (cap - suc (length xs)) 0) v k (sym e)
+      ∙ ap (λ (x : ℕ). (xs ++ (v ∷ [])) ++ replicate x 0) q
+
+-- the next entry of a list that is to stand in the array
+pub padded-next : (cap : ℕ) (zs : List ℕ) (r v : ℕ) → r < length zs → length zs ≤ cap → v ≡ getD zs r 0 → set (padded cap (take r zs)) r v ≡ padded cap (take (r + 1) zs)
+padded-next cap zs r v h k e =
+    padded-put cap (take r zs) r v (sym (length-take-le r zs (omega arith))) (omega arith)
+    ∙ ap (padded cap) (ap (λ (x : ℕ). take r zs ++ (x ∷ [])) e ∙ sym (take-suc zs r 0 h) ∙ ap (λ (x : ℕ). take x zs) (sym (add-one r)))
+
+pub padded-all : (cap : ℕ) (zs : List ℕ) (r : ℕ) → r ≡ length zs → padded cap (take r zs) ≡ padded cap zs
+padded-all cap zs r e = ap (padded cap) (ap (λ (x : ℕ). take x zs) e ∙ take-length zs)
+
+-- what stands at a place of a list that a map made, or that is dropped up to it
+pub map-at : {A : Type 0} (f : A → ℕ) (l : List A) (d : A) (i : ℕ) → i < length l → getD (map f l) i 0 ≡ f (getD l i d)
+map-at f [] d i h = absurd (omega arith)
+map-at f (x ∷ l) d zero h = refl
+map-at f (x ∷ l) d (suc i) h = map-at f l d i (omega arith)
+
+pub drop-at-next : {A : Type 0} (l : List A) (i : ℕ) (d : A) → i < length l → drop i l ≡ getD l i d ∷ drop (i + 1) l
+drop-at-next {A} l i d h = drop-cons l i d h ∙ ap (λ (x : ℕ). getD l i d ∷ drop x l) (sym (add-one i))
+
+pub take-next : {A : Type 0} (l : List A) (i : ℕ) (d : A) → i < length l → take (i + 1) l ≡ take i l ++ (getD l i d ∷ [])
+take-next l i d h = ap (λ (x : ℕ). take x l) (add-one i) ∙ take-suc l i d h
+
+-- ---- the lines of a list of masks and a list of depths
+pub lines-length : (ms ds : List ℕ) → length ms ≡ length ds → length (lines ms ds) ≡ length ms
+lines-length [] ds e = refl
+lines-length (m ∷ ms) [] e = absurd (omega arith)
+lines-length (m ∷ ms) (d ∷ ds) e = ap suc (lines-length ms ds (omega arith))
+
+pub lines-get : (ms ds : List ℕ) (i : ℕ) → length ms ≡ length ds → getD (lines ms ds) i none ≡ line (getD ms i 0) (getD ds i 0)
+lines-get [] [] i e = refl
+lines-get [] (d ∷ ds) i e = absurd (omega arith)
+lines-get (m ∷ ms) [] i e = absurd (omega arith)
+lines-get (m ∷ ms) (d ∷ ds) zero e = refl
+lines-get (m ∷ ms) (d ∷ ds) (suc i) e = lines-get ms ds i (omega arith)
+
+pub made-at : (ms ds : List ℕ) (i j : ℕ) → length ms ≡ length ds
+    → made (lines ms ds) (gate i j) ≡ line (bitXor (getD ms i 0) (getD ms j 0)) (suc (max (getD ds i 0) (getD ds j 0)))
+made-at ms ds i j e =
+    ap₂ (λ (x y : Line). line (bitXor (x .mask) (y .mask)) (suc (max (x .depth) (y .depth)))) (lines-get ms ds i e) (lines-get ms ds j e)
+
+pub lines-snoc : (xs ys : List ℕ) (m d : ℕ) → length xs ≡ length ys → lines (xs ++ (m ∷ [])) (ys ++ (d ∷ [])) ≡ lines xs ys ++ (line m d ∷ [])
+lines-snoc [] [] m d e = refl
+lines-snoc [] (y ∷ ys) m d e = absurd (omega arith)
+lines-snoc (x ∷ xs) [] m d e = absurd (omega arith)
+lines-snoc (x ∷ xs) (y ∷ ys) m d e = ap (λ (l : List Line). line x y ∷ l) (lines-snoc xs ys m d (omega arith))
+
+-- bytes are below 2 ^ 8
+pub lines-small : (ms ds : List ℕ) → ((i : ℕ) → getD ms i 0 < 256) → Small 8 (lines ms ds)
+lines-small [] ds f = tt
+lines-small (m ∷ ms) [] f = tt
+lines-small (m ∷ ms) (d ∷ ds) f = (f 0, lines-small ms ds (λ i. f (suc i)))
+
+-- ---- the rows of a list of masks and a list of limits
+pub rows-length : (ts ds : List ℕ) → length ts ≡ length ds → length (rowsOf ts ds) ≡ length ts
+rows-length [] ds e = refl
+rows-length (t ∷ ts) [] e = absurd (omega arith)
+rows-length (t ∷ ts) (d ∷ ds) e = ap suc (rows-length ts ds (omega arith))
+
+pub rows-at : (ts ds : List ℕ) (i : ℕ) → length ts ≡ length ds → getD (rowsOf ts ds) i (row 0 0) ≡ row (getD ts i 0) (getD ds i 0)
+rows-at [] [] i e = refl
+rows-at [] (d ∷ ds) i e = absurd (omega arith)
+rows-at (t ∷ ts) [] i e = absurd (omega arith)
+rows-at (t ∷ ts) (d ∷ ds) zero e = refl
+rows-at (t ∷ ts) (d ∷ ds) (suc i) e = rows-at ts ds i (omega arith)
+
+pub rows-limits : (ts ds : List ℕ) → length ts ≡ length ds → map (λ (r : Row). r .limit) (rowsOf ts ds) ≡ ds
+rows-limits [] [] e = refl
+rows-limits [] (d ∷ ds) e = absurd (omega arith)
+rows-limits (t ∷ ts) [] e = absurd (omega arith)
+rows-limits (t ∷ ts) (d ∷ ds) e = ap (λ (l : List ℕ). d ∷ l) (rows-limits ts ds (omega arith))
+
+-- ---- the greatest of a list, from a place on
+pub greatest-next : (xs : List ℕ) (i : ℕ) → i < length xs → greatest (drop i xs) ≡ max (getD xs i 0) (greatest (drop (i + 1) xs))
+greatest-next xs i h = ap greatest (drop-at-next xs i 0 h)
+
+pub greatest-end : (xs : List ℕ) (i : ℕ) → length xs ≤ i → greatest (drop i xs) ≡ 0
+greatest-end xs i h = ap greatest (drop-of-length-le xs h)
+
+-- each is at most the greatest
+pub greatest-le : (xs : List ℕ) (i : ℕ) → getD xs i 0 ≤ greatest xs
+greatest-le [] i = omega arith
+greatest-le (x ∷ xs) zero = omega arith
+greatest-le (x ∷ xs) (suc i) = omega (arith, greatest-le xs i)
+
+-- what bounds each bounds the greatest
+pub greatest-below : (xs : List ℕ) (b : ℕ) → ((i : ℕ) → getD xs i 0 ≤ b) → greatest xs ≤ b
+greatest-below [] b f = omega arith
+greatest-below (x ∷ xs) b f = omega (arith, f 0, greatest-below xs b (λ i. f (suc i)))

@@ -1,0 +1,142 @@
+-- Laws of the weighing of pairs by goals: the ways that a turn at a pair goes, and that the goals choose the pair that the rows choose.
+use mathlib.Core.Bool.{Bool, true, false, cond}
+use mathlib.Core.List.{List, [], _∷_, _++_}
+use mathlib.Core.Path.{_≡_, refl, sym, ap, ap₂, _∙_, subst}
+use Prim.Native.Nat.{ℕ, zero, suc, _+_, _-_, _*_, _^_, _≤_, _<_, max}
+use native.Mathlib.Omega.{arith}
+use lib.Bits.{bitXor, xor-lt}
+use lib.ListN.{length, getD, take}
+use Rattle.circuit.specs.Lines.{greatest}
+use Rattle.distance.specs.Base.{Line, line, lines, Gate, gate, made}
+use Rattle.builder.specs.Rule.{Row, row, away, distances, sum, squares, deepest, Best, best, start, better, consider, allPairs, distancesAfter, bestPair}
+use Rattle.builder.specs.Kept.{Sound, rowsOf, padded, missed, goalsAfter, goalsWith, toGo, placeOf, roomOf, lowOf, Goals, Aimed, Choosing, Weighing}
+use Rattle.builder.proofs.Reach.{away-lt}
+use Rattle.builder.proofs.Goals.{Missed, Alike, alike, are-goals}
+use Rattle.builder.proofs.Lists.{made-at, lines-length, lines-small, rows-length, rows-at, rows-limits, map-at, padded-take, greatest-below}
+use Rattle.builder.proofs.Choice.{consider-deep, consider-over, consider-done, same-pairs}
+
+-- the goals' distances sum to little
+pub low-sum : (gs : List ℕ) → ((i : ℕ) → getD gs i 0 < 8) → sum gs ≤ 8 * length gs
+low-sum [] f = omega arith
+low-sum (g ∷ gs) f = omega (arith, f 0, low-sum gs (λ i. f (suc i)))
+
+-- ---- the pair (i, j) of two lists, of depth w and cost c
+module _ (ms ds ps fs gs h : List ℕ) (i j w c : ℕ) (l : length ms ≡ length ds) (e : w ≡ suc (max (getD ds i 0) (getD ds j 0))) (ec : c ≡ 2 ^ w) (top : ℕ) (b : Best) where
+  abbrev ls : List Line
+  ls = lines ms ds
+
+  abbrev m : ℕ
+  m = bitXor (getD ms i 0) (getD ms j 0)
+
+  abbrev after : Gate → List ℕ
+  after = goalsWith ls h ps fs gs
+
+  deep : made ls (gate i j) .depth ≡ w
+  deep = ap (λ (x : Line). x .depth) (made-at ms ds i j l) ∙ sym e
+
+  after-is : after (gate i j) ≡ goalsAfter h m c ps fs gs
+  after-is =
+      ap₂ (λ (x y : ℕ). goalsAfter h x y ps fs gs) (ap (λ (x : Line). x .mask) (made-at ms ds i j l)) (ap (λ (x : ℕ). 2 ^ x) deep ∙ sym ec)
+
+  pub pair-deep : top < w → consider ls after top (gate i j) b ≡ b
+  pair-deep p = consider-deep ls after top (gate i j) b (omega (arith, deep))
+
+  pub pair-over : (r s : ℕ) → w ≤ top → Missed h m c ps fs gs r s → b .total < s → consider ls after top (gate i j) b ≡ b
+  pair-over r s p q k = consider-over ls after top (gate i j) b s (omega (arith, deep)) k (omega (arith, q .total, ap sum after-is))
+
+  pub pair-done : (s q : ℕ) (x : Bool) → w ≤ top → sum (goalsAfter h m c ps fs gs) ≡ s → q ≡ squares (goalsAfter h m c ps fs gs) → better (best s q (gate i j)) b ≡ x
+      → consider ls after top (gate i j) b ≡ cond x (best s q (gate i j)) b
+  pair-done s q x p a k v = consider-done ls after top (gate i j) b s q x (omega (arith, deep)) (ap sum after-is ∙ a) (ap squares after-is ∙ sym k) v
+
+-- ---- what a choice is given
+module _ (ms ds ts limits gaps h : List ℕ) (z : Choosing ms ds ts limits gaps h) (bytes : (i : ℕ) → getD ms i 0 < 256) (masks : (i : ℕ) → getD ts i 0 < 256) where
+  abbrev base : List Line
+  base = lines ms ds
+
+  abbrev rows : List Row
+  rows = rowsOf ts limits
+
+  pub gaps-length : length ts ≡ length gaps
+  gaps-length = omega (arith, rows-length ts limits (z .paired), ap length (z .gaps-are), lib.ListN.length-map rows (away base))
+
+  pub sound-at : (i : ℕ) → i < length ts → Sound (row (getD ts i 0) (getD limits i 0))
+  sound-at i p = record { some = z .some i p; shallow = z .limited i }
+
+  -- the distance at a place
+  pub gap-at : (i : ℕ) → i < length ts → getD gaps i 0 ≡ away base (row (getD ts i 0) (getD limits i 0))
+  gap-at i p =
+      ap (λ (l : List ℕ). getD l i 0) (z .gaps-are)
+      ∙ map-at (away base) rows (row 0 0) i (omega (arith, rows-length ts limits (z .paired)))
+      ∙ ap (away base) (rows-at ts limits i (z .paired))
+
+  pub gap-small : (i : ℕ) → getD gaps i 0 < 8
+  gap-small i =
+      elim (native.Mathlib.Decide.decLt i (length ts)) [
+        | yes p ↦ omega (arith, gap-at i p, away-lt base (row (getD ts i 0) (getD limits i 0)) (lines-small ms ds bytes) (sound-at i p))
+        | no p ↦ omega (arith, lib.ListN.List·getD-eq-default gaps 0 {n = i} (omega (arith, gaps-length)))
+      ]
+
+  abbrev ps : List ℕ
+  ps = toGo placeOf gaps ts
+
+  abbrev fs : List ℕ
+  fs = toGo roomOf gaps limits
+
+  abbrev gs : List ℕ
+  gs = toGo lowOf gaps ts
+
+  pub goals-given : Goals ps fs gs
+  goals-given = are-goals ts limits gaps (z .paired) gaps-length (z .few) gap-small masks
+
+  pub limit-top : greatest limits < 16
+  limit-top = let b = greatest-below limits 15 (λ i. omega (arith, z .limited i)) in omega arith
+
+  pub weighing-given : (floor : ℕ) → floor ≡ sum gs → Weighing ms ds ps fs gs h (greatest limits) floor
+  weighing-given floor e = record { even = z .even; shallow = z .shallow; goals = goals-given; cap = z .held .cap; deep = limit-top; floor-is = e }
+
+  -- by the goals the same pair is chosen
+  pub best-given : (t q i j : ℕ) → allPairs base (goalsWith base h ps fs gs) (greatest limits) (length ms) 0 start ≡ best t q (gate i j) → bestPair base rows ≡ gate i j
+  best-given t q i j e =
+      let n = lines-length ms ds (z .even) in
+      let small = lines-small ms ds bytes in
+      let d : deepest rows ≡ greatest limits = ap greatest (rows-limits ts limits (z .paired)) in
+      let g : (x y : ℕ) → x < y → y < length base
+      → (sum (distancesAfter base rows (gate x y)) ≡ sum (goalsWith base h ps fs gs (gate x y))) × (squares (distancesAfter base rows (gate x y)) ≡ squares (goalsWith base h ps fs gs (gate x y))) =
+      λ x y p k. alike-sums x y (alike h base (greatest gaps) (gate x y) (z .held) small (omega arith) k (mask-small x y) ts limits (z .paired) sound-at masks (omega (arith, ap greatest (z .gaps-are)))) in
+      ap (λ (b : Best). b .pair)
+      (same-pairs base (distancesAfter base rows) (goalsWith base h ps fs gs) (deepest rows) g (length base) 0 start (omega arith)
+      ∙ ap₂ (λ (u v : ℕ). allPairs base (goalsWith base h ps fs gs) u v 0 start) d n ∙ e)
+    where
+      mask-small : (x y : ℕ) → made base (gate x y) .mask < 256
+      mask-small x y = subst (λ (u : Line). u .mask < 256) (sym (made-at ms ds x y (z .even))) (xor-lt 8 (getD ms x 0) (getD ms y 0) (bytes x) (bytes y))
+
+      same : goalsWith base h (toGo placeOf (distances base rows) ts) (toGo roomOf (distances base rows) limits) (toGo lowOf (distances base rows) ts) ≡ goalsWith base h ps fs gs
+      same = ap (λ (l : List ℕ). goalsWith base h (toGo placeOf l ts) (toGo roomOf l limits) (toGo lowOf l ts)) (sym (z .gaps-are))
+
+      alike-sums : (x y : ℕ)
+          → Alike (distancesAfter base rows (gate x y))
+          (goalsWith base h (toGo placeOf (distances base rows) ts) (toGo roomOf (distances base rows) limits) (toGo lowOf (distances base rows) ts) (gate x y))
+          → (sum (distancesAfter base rows (gate x y)) ≡ sum (goalsWith base h ps fs gs (gate x y))) × (squares (distancesAfter base rows (gate x y)) ≡ squares (goalsWith base h ps fs gs (gate x y)))
+      alike-sums x y a = (a .sums ∙ ap (λ (f : Gate → List ℕ). sum (f (gate x y))) same, a .squares-too ∙ ap (λ (f : Gate → List ℕ). squares (f (gate x y))) same)
+
+  -- the same of the goals as they stand in three arrays
+  module _ (P R L : List ℕ) (k floor : ℕ) (a : Aimed ts limits gaps P R L k floor) where
+    pub few-goals : k ≤ 32
+    few-goals = omega (arith, a .count-is, goals-given .few)
+
+    places-taken : take k P ≡ ps
+    places-taken = ap (take k) (a .places-are) ∙ padded-take 32 ps k (omega (arith, a .count-is, goals-given .places))
+
+    rooms-taken : take k R ≡ fs
+    rooms-taken = ap (take k) (a .rooms-are) ∙ padded-take 32 fs k (omega (arith, a .count-is, goals-given .rooms))
+
+    lows-taken : take k L ≡ gs
+    lows-taken = ap (take k) (a .lows-are) ∙ padded-take 32 gs k (a .count-is)
+
+    pub weighing-taken : (top : ℕ) → top ≡ greatest limits → Weighing ms ds (take k P) (take k R) (take k L) h top floor
+    weighing-taken top e = rw (places-taken, rooms-taken, lows-taken, e) (weighing-given floor (a .floor-is))
+
+    pub best-taken : (top t q i j : ℕ) → top ≡ greatest limits → allPairs base (goalsWith base h (take k P) (take k R) (take k L)) top (length ms) 0 start ≡ best t q (gate i j) → bestPair base rows ≡ gate i j
+    best-taken top t q i j e w =
+        best-given t q i j
+        ((λ u. allPairs base (goalsWith base h (sym places-taken u) (sym rooms-taken u) (sym lows-taken u)) (sym e u) (length ms) 0 start) ∙ w)

@@ -1,0 +1,42 @@
+-- `build` meets its contract: a refusal leaves the room as it was, and the circuit is written by the writer.
+use mathlib.Core.Path.{_≡_, refl, sym, ap, _∙_}
+use Rattle.builder.proofs.Promise.{plan-answer, plan-circuit, builds-refused, builds-done}
+use borrow.Author.Needs.{needs}
+use Rattle.builder.proofs.build.Statement.{statement}
+use Rattle.builder.proofs.build.Tie as tie
+
+plan-requires : tie.Need-plan-requires
+plan-requires c κs = search needs
+
+enum-known-answer : tie.Need-enum-known-answer
+enum-known-answer c = search needs
+
+enum-told : tie.Need-enum-told
+enum-told c = search needs
+
+write-requires : tie.Need-write-requires
+write-requires c κs = search needs
+
+returns : tie.Need-returns
+returns c = builds-refused (c .before .before .before .before .before .before .args .n) (c .before .before .before .before .before .before .args .rows .now) (c .before .before .before .before .before .before .args .d) (c .before .before .before .before .before .before .args .room .now) _ (sym (plan-answer (c .before .before .before .before .before .before .args .n) (c .before .before .before .before .before .before .args .rows .now) (c .before .before .before .before .before .before .args .d) (c .before .before .before .plan .result) (c .before .before .before .plan .ensures)) ∙ c .before .answer .given .1)
+
+same-length : tie.Need-same-length
+same-length c = search needs
+
+returns-2 : tie.Need-returns-2
+returns-2 c =
+    let a = c .before .before .before .before .before .before .before .before .before .before .args in
+    let d = c .before .before .before .before .before .enum-told .given .1 in
+    builds-done (a .n) (a .rows .now) (a .d) (a .room .now) (c .before .before .before .before .before .before .before .plan .result .circuit) (c .before .before .write .result) _ (sym (plan-answer (a .n) (a .rows .now) (a .d) (c .before .before .before .before .before .before .before .plan .result) (c .before .before .before .before .before .before .before .plan .ensures)) ∙ d) (plan-circuit (a .n) (a .rows .now) (a .d) (c .before .before .before .before .before .before .before .plan .result) (c .before .before .before .before .before .before .before .plan .ensures) d) (c .before .before .write .ensures)
+
+pub build-spec : {M : Type 1} → statement M
+build-spec =
+    tie.close
+    (tie.spec
+    plan-requires
+    enum-known-answer
+    enum-told
+    write-requires
+    returns
+    same-length
+    returns-2)

@@ -1,0 +1,116 @@
+-- `add_gate` meets its contract: the next gate reads two lines and is not too deep, so the state steps.
+use mathlib.Core.Path.{_≡_, sym}
+use Prim.Native.Nat.{_<_}
+use native.Mathlib.Omega.{arith}
+use lib.ListN.{length}
+use lib.Seq.{length-take-le}
+use Rattle.builder.proofs.Steps.{first-in, second-in, gaps-wide, lowering, next-wide, refilling-asks, stepped}
+use borrow.Author.Needs.{needs}
+use Rattle.builder.proofs.grow.add_gate.Statement.{statement}
+use Rattle.builder.proofs.grow.add_gate.Tie as tie
+
+-- the operands are lines
+one : (c : tie.Start) → c .args .a < c .args .s .len
+one c = first-in (c .args .rows .now) (c .args .limits .now) (c .args .s) (c .pre .0) (c .args .h .now) (c .pre .1 .0) (c .args .a) (c .args .b) (c .pre .1 .1 .0)
+
+two : (c : tie.Start) → c .args .b < c .args .s .len
+two c = second-in (c .args .rows .now) (c .args .limits .now) (c .args .s) (c .pre .0) (c .args .h .now) (c .pre .1 .0) (c .args .a) (c .args .b) (c .pre .1 .1 .0)
+
+array-read-m : tie.Need-array-read-m
+array-read-m c = omega (arith, one (c .before .before .before .before .before .before .before), c .before .before .before .before .before .before .before .pre .0 .within)
+
+array-read-m-2 : tie.Need-array-read-m-2
+array-read-m-2 c = omega (arith, two (c .before .before .before .before .before .before .before), c .before .before .before .before .before .before .before .pre .0 .within)
+
+array-read-above : tie.Need-array-read-above
+array-read-above c = omega (arith, one (c .before .before .before .before .before .before .before), c .before .before .before .before .before .before .before .pre .0 .within)
+
+array-read-above-2 : tie.Need-array-read-above-2
+array-read-above-2 c = omega (arith, two (c .before .before .before .before .before .before .before), c .before .before .before .before .before .before .before .pre .0 .within)
+
+above-requires : tie.Need-above-requires
+above-requires c κs = (c .before .before .before .before .before .before .before .pre .0 .shallow (c .before .before .before .before .before .before .before .args .a), c .before .before .before .before .before .before .before .pre .0 .shallow (c .before .before .before .before .before .before .before .args .b))
+
+cost-requires : tie.Need-cost-requires
+cost-requires c κs = search needs
+
+array-share-prefix-old : tie.Need-array-share-prefix-old
+array-share-prefix-old c = omega (arith, c .before .before .before .before .before .before .before .before .before .pre .0 .few, gaps-wide (c .before .before .before .before .before .before .before .before .before .args .rows .now) (c .before .before .before .before .before .before .before .before .before .args .limits .now) (c .before .before .before .before .before .before .before .before .before .args .s) (c .before .before .before .before .before .before .before .before .before .pre .0))
+
+slice-aggregate-lowered : tie.Need-slice-aggregate-lowered
+slice-aggregate-lowered c = sym (length-take-le _ _ (omega (arith, c .before .before .before .before .before .before .before .before .before .before .pre .0 .few, gaps-wide (c .before .before .before .before .before .before .before .before .before .before .args .rows .now) (c .before .before .before .before .before .before .before .before .before .before .args .limits .now) (c .before .before .before .before .before .before .before .before .before .before .args .s) (c .before .before .before .before .before .before .before .before .before .before .pre .0))))
+
+lowered-requires : tie.Need-lowered-requires
+lowered-requires c κs = lowering (c .before .before .before .before .before .before .before .before .before .before .before .args .rows .now) (c .before .before .before .before .before .before .before .before .before .before .before .args .limits .now) (c .before .before .before .before .before .before .before .before .before .before .before .args .s) (c .before .before .before .before .before .before .before .before .before .before .before .pre .0) (c .before .before .before .before .before .before .before .before .before .before .before .args .h .now) (c .before .before .before .before .before .before .before .before .before .before .before .pre .1 .0) (c .before .before .before .before .before .before .before .before .before .before .before .args .a) (c .before .before .before .before .before .before .before .before .before .before .before .args .b) (c .before .before .before .before .before .before .before .before .before .before .before .pre .1 .1 .0) (c .before .before .before .above .result) (c .before .before .cost .result) (c .before .before .before .above .ensures) (c .before .before .cost .ensures)
+
+array-share-prefix-gaps : tie.Need-array-share-prefix-gaps
+array-share-prefix-gaps c = omega (arith, c .before .before .before .before .before .before .before .before .before .before .before .before .pre .0 .few, next-wide (c .before .before .before .before .before .before .before .before .before .before .before .before .args .rows .now) (c .before .before .before .before .before .before .before .before .before .before .before .before .args .limits .now) (c .before .before .before .before .before .before .before .before .before .before .before .before .args .s) (c .before .before .before .before .before .before .before .before .before .before .before .before .pre .0) (c .before .before .before .before .before .before .before .before .before .before .before .before .args .h .now) (c .before .before .before .before .before .before .before .before .before .before .before .before .pre .1 .0) (c .before .before .before .before .before .before .before .before .before .before .before .before .args .a) (c .before .before .before .before .before .before .before .before .before .before .before .before .args .b) (c .before .before .before .before .before .before .before .before .before .before .before .before .pre .1 .1 .0) (c .before .before .before .before .above .result) (c .before .before .before .cost .result) (c .before .before .before .before .above .ensures) (c .before .before .before .cost .ensures) (λ k. c .before .before .before .before .before .before .before .before .before .before .before .shared-slice-known .given k .fits) (c .lowered .result) (c .lowered .ensures))
+
+slice-aggregate-greatest-of : tie.Need-slice-aggregate-greatest-of
+slice-aggregate-greatest-of c = sym (length-take-le _ _ (omega (arith, c .before .before .before .before .before .before .before .before .before .before .before .before .before .pre .0 .few, next-wide (c .before .before .before .before .before .before .before .before .before .before .before .before .before .args .rows .now) (c .before .before .before .before .before .before .before .before .before .before .before .before .before .args .limits .now) (c .before .before .before .before .before .before .before .before .before .before .before .before .before .args .s) (c .before .before .before .before .before .before .before .before .before .before .before .before .before .pre .0) (c .before .before .before .before .before .before .before .before .before .before .before .before .before .args .h .now) (c .before .before .before .before .before .before .before .before .before .before .before .before .before .pre .1 .0) (c .before .before .before .before .before .before .before .before .before .before .before .before .before .args .a) (c .before .before .before .before .before .before .before .before .before .before .before .before .before .args .b) (c .before .before .before .before .before .before .before .before .before .before .before .before .before .pre .1 .1 .0) (c .before .before .before .before .before .above .result) (c .before .before .before .before .cost .result) (c .before .before .before .before .before .above .ensures) (c .before .before .before .before .cost .ensures) (λ k. c .before .before .before .before .before .before .before .before .before .before .before .before .shared-slice-known .given k .fits) (c .before .lowered .result) (c .before .lowered .ensures))))
+
+greatest-of-requires : tie.Need-greatest-of-requires
+greatest-of-requires c κs = search needs
+
+cast-add-line : tie.Need-cast-add-line
+cast-add-line c = search needs
+
+add-line-requires : tie.Need-add-line-requires
+add-line-requires c κs =
+    let q = refilling-asks (c .before .before .before .before .before .before .before .before .before .before .before .before .before .before .before .args .rows .now) (c .before .before .before .before .before .before .before .before .before .before .before .before .before .before .before .args .limits .now) (c .before .before .before .before .before .before .before .before .before .before .before .before .before .before .before .args .s) (c .before .before .before .before .before .before .before .before .before .before .before .before .before .before .before .pre .0) (c .before .before .before .before .before .before .before .before .before .before .before .before .before .before .before .args .h .now) (c .before .before .before .before .before .before .before .before .before .before .before .before .before .before .before .pre .1 .0) (c .before .before .before .before .before .before .before .before .before .before .before .before .before .before .before .args .a) (c .before .before .before .before .before .before .before .before .before .before .before .before .before .before .before .args .b) (c .before .before .before .before .before .before .before .before .before .before .before .before .before .before .before .pre .1 .1 .0) (c .before .before .before .before .before .before .before .above .result) (c .before .before .before .before .before .before .cost .result) (c .before .before .before .before .before .before .before .above .ensures) (c .before .before .before .before .before .before .cost .ensures) (λ k. c .before .before .before .before .before .before .before .before .before .before .before .before .before .before .shared-slice-known .given k .fits) (c .before .before .before .lowered .result) (c .before .before .before .lowered .ensures) (c .before .greatest-of .result) (c .before .greatest-of .ensures) in
+    (q .0, (q .1, (q .2, q .3)))
+
+array-write-masks : tie.Need-array-write-masks
+array-write-masks c = search needs
+
+array-write-depths : tie.Need-array-write-depths
+array-write-depths c = search needs
+
+cast-left : tie.Need-cast-left
+cast-left c = omega (arith, one (c .before .before .before .before .before .before .before .before .before .before .before .before .before .before .before .before), c .before .before .before .before .before .before .before .before .before .before .before .before .before .before .before .before .pre .0 .within)
+
+array-write-left : tie.Need-array-write-left
+array-write-left c = search needs
+
+cast-right : tie.Need-cast-right
+cast-right c = omega (arith, two (c .before .before .before .before .before .before .before .before .before .before .before .before .before .before .before .before), c .before .before .before .before .before .before .before .before .before .before .before .before .before .before .before .before .pre .0 .within)
+
+array-write-right : tie.Need-array-write-right
+array-write-right c = search needs
+
+add-t30 : tie.Need-add-t30
+add-t30 c = search needs
+
+add-t50 : tie.Need-add-t50
+add-t50 c = search needs
+
+returns : tie.Need-returns
+returns c = stepped (c .before .before .before .before .before .before .before .before .before .before .before .before .before .before .before .before .args .rows .now) (c .before .before .before .before .before .before .before .before .before .before .before .before .before .before .before .before .args .limits .now) (c .before .before .before .before .before .before .before .before .before .before .before .before .before .before .before .before .args .s) (c .before .before .before .before .before .before .before .before .before .before .before .before .before .before .before .before .pre .0) (c .before .before .before .before .before .before .before .before .before .before .before .before .before .before .before .before .args .h .now) (c .before .before .before .before .before .before .before .before .before .before .before .before .before .before .before .before .pre .1 .0) (c .before .before .before .before .before .before .before .before .before .before .before .before .before .before .before .before .args .a) (c .before .before .before .before .before .before .before .before .before .before .before .before .before .before .before .before .args .b) (c .before .before .before .before .before .before .before .before .before .before .before .before .before .before .before .before .pre .1 .1 .0) (c .before .before .before .before .before .before .before .before .above .result) (c .before .before .before .before .before .before .before .cost .result) (c .before .before .before .before .before .before .before .before .above .ensures) (c .before .before .before .before .before .before .before .cost .ensures) (λ k. c .before .before .before .before .before .before .before .before .before .before .before .before .before .before .before .shared-slice-known .given k .fits) (c .before .before .before .before .lowered .result) (c .before .before .before .before .lowered .ensures) (c .before .before .greatest-of .result) (c .before .before .greatest-of .ensures) _ (c .add-line .ensures)
+
+pub add-gate-spec : {M : Type 1} → statement M
+add-gate-spec =
+    tie.close
+    (tie.spec
+    array-read-m
+    array-read-m-2
+    array-read-above
+    array-read-above-2
+    above-requires
+    cost-requires
+    array-share-prefix-old
+    slice-aggregate-lowered
+    lowered-requires
+    array-share-prefix-gaps
+    slice-aggregate-greatest-of
+    greatest-of-requires
+    cast-add-line
+    add-line-requires
+    array-write-masks
+    array-write-depths
+    cast-left
+    array-write-left
+    cast-right
+    array-write-right
+    add-t30
+    add-t50
+    returns)

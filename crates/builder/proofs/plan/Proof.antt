@@ -1,0 +1,37 @@
+-- `plan` meets its contract: a refusal is what the look found, and nothing after it refuses.
+use mathlib.Core.Path.{_≡_, refl, sym, ap, _∙_}
+use Rattle.circuit.specs.declared.Answer.{Answer}
+use Rattle.circuit.specs.declared.Answer.the-variants.{Done, Refused}
+use Rattle.circuit.specs.declared.Circuit.{Circuit}
+use Rattle.builder.specs.declared.Planned.{Planned}
+use Rattle.builder.specs.Call.{built, planned, planOf}
+use borrow.Author.Needs.{needs}
+use Rattle.builder.proofs.plan.Statement.{statement}
+use Rattle.builder.proofs.plan.Tie as tie
+
+look-requires : tie.Need-look-requires
+look-requires c κs = search needs
+
+enum-known-answer : tie.Need-enum-known-answer
+enum-known-answer c = search needs
+
+enum-told : tie.Need-enum-told
+enum-told c = search needs
+
+program-requires : tie.Need-program-requires
+program-requires c κs = sym (c .before .before .look .ensures) ∙ c .enum-told .given .1
+
+returns : tie.Need-returns
+unfolding planOf
+returns c = ap (λ (x : Answer). planned x (built (c .before .before .before .before .before .args .n) (c .before .before .before .before .before .args .rows .now) (c .before .before .before .before .before .args .d))) (sym (sym (c .before .before .before .look .ensures) ∙ c .before .answer .given .1))
+
+returns-2 : tie.Need-returns-2
+unfolding planOf
+returns-2 c =
+    let f : Circuit → Planned = λ x. record { circuit = x; answer = Done } in
+    ap f (c .program .ensures) ∙ ap (λ (x : Answer). planned x (built (c .before .before .before .before .before .args .n) (c .before .before .before .before .before .args .rows .now) (c .before .before .before .before .before .args .d))) (sym (sym (c .before .before .before .look .ensures) ∙ c .before .enum-told .given .1))
+
+pub plan-spec : {M : Type 1} → statement M
+plan-spec =
+    tie.close
+    (tie.spec look-requires enum-known-answer enum-told program-requires returns returns-2)

@@ -1,0 +1,240 @@
+-- What the code keeps from step to step, and what its parts ask and give: the public promises name none of this.
+use mathlib.Core.Bool.{Bool, true, false, cond}
+use mathlib.Core.List.{List, [], _∷_, _++_, map}
+use mathlib.Core.Path.{_≡_}
+use Prim.Native.Nat.{ℕ, zero, suc, _+_, _-_, _*_, _^_, _≤_, _<_}
+use lib.Bits.{bitXor}
+use lib.Dec.{leb, ltb, eqb}
+use lib.ListN.{length, getD, take, set, replicate}
+use Rattle.circuit.specs.Lines.{greatest}
+use Rattle.distance.specs.Base.{Line, lines, Small, Shallow, Gate, gate, made, run, weight}
+use Rattle.distance.specs.Distance.{gates}
+use Rattle.distance.specs.Table.{far, costAt, least, relaxed}
+use Rattle.builder.specs.declared.grow.State.{State}
+use Rattle.builder.specs.Rule.{Row, row, reach, count, away, distances, sum, nextGate, greedy, taken}
+
+-- the rows of a list of masks and a list of limits
+abbrev pub rowsOf : List ℕ → List ℕ → List Row
+rowsOf [] ds = []
+rowsOf (t ∷ ts) [] = []
+rowsOf (t ∷ ts) (d ∷ ds) = row t d ∷ rowsOf ts ds
+
+-- a row that the rule is applied to: its mask is not 0, and its limit at most 15
+pub record Sound (r : Row) : Type 0 where
+  pub some : r .mask ≡ 0 → ⊥
+  pub shallow : r .limit < 16
+
+abbrev pub Sounds : List Row → Type 0
+Sounds [] = Unit {0}
+Sounds (r ∷ rs) = Sound r × Sounds rs
+
+-- each row has a distance
+abbrev pub Alive : List Line → List Row → Type 0
+Alive ls [] = Unit {0}
+Alive ls (r ∷ rs) = ((g : ℕ) × (reach ls r ≡ gates g)) × Alive ls rs
+
+-- an array of `cap` entries that begins with xs, and has zeros past them
+unfoldable pub padded : ℕ → List ℕ → List ℕ
+padded cap xs = xs ++ replicate (cap - length xs) 0
+
+-- ---- the table
+
+-- no entry is above "none"
+abbrev pub Capped : List ℕ → Type 0
+Capped h = (j : ℕ) → getD h j 0 ≤ far
+
+-- the table of a base, as far as it is kept up: the sizes below `sizes`, which are those that some row still asks
+pub record Held (h : List ℕ) (ls : List Line) (sizes : ℕ) : Type 0 where
+  pub at : (k t : ℕ) → k < sizes → t < 256 → getD h (k * 256 + t) 0 ≡ least k t ls
+  pub cap : Capped h
+  pub long : length h ≡ 2304
+
+-- g is h after a line with mask m and cost c, in the entries below `end`
+pub record Refilled (h g : List ℕ) (m c end : ℕ) : Type 0 where
+  pub low : (j : ℕ) → j < 256 → getD g j 0 ≡ getD h j 0
+  pub done : (j : ℕ) → 256 ≤ j → j < end → getD g j 0 ≡ relaxed h m c j
+  pub cap : Capped g
+  pub long : length g ≡ 2304
+
+-- ---- the goals: what is still to be made, in three lists. A row with mask t at distance g + 1 has the place g * 256 + t, the room 2 ^ limit and the low g
+
+-- 0 where a line with mask m and cost c brings a goal one gate nearer, and 1 where it stays where it is: the goal comes nearer where the line
+-- and g lines of the base make its row, which is one look-up in the table
+unfoldable pub misses : List ℕ → ℕ → ℕ → ℕ → ℕ → ℕ
+misses h place room m c = cond (leb (getD h (bitXor place m) 0 + c) room) 0 1
+
+-- the same of each goal
+abbrev pub missed : List ℕ → ℕ → ℕ → List ℕ → List ℕ → List ℕ
+missed h m c [] fs = []
+missed h m c (p ∷ ps) [] = []
+missed h m c (p ∷ ps) (f ∷ fs) = misses h p f m c ∷ missed h m c ps fs
+
+abbrev pub added : List ℕ → List ℕ → List ℕ
+added [] ys = []
+added (x ∷ xs) [] = []
+added (x ∷ xs) (y ∷ ys) = (x + y) ∷ added xs ys
+
+-- the goals' distances after such a line
+abbrev pub goalsAfter : List ℕ → ℕ → ℕ → List ℕ → List ℕ → List ℕ → List ℕ
+goalsAfter h m c ps fs gs = added gs (missed h m c ps fs)
+
+-- of the rows that are not made, what f makes of the distance less one and of the row's entry in xs
+abbrev pub toGo : (ℕ → ℕ → ℕ) → List ℕ → List ℕ → List ℕ
+toGo f [] xs = []
+toGo f (g ∷ gs) [] = []
+toGo f (zero ∷ gs) (x ∷ xs) = toGo f gs xs
+toGo f (suc g ∷ gs) (x ∷ xs) = f g x ∷ toGo f gs xs
+
+abbrev pub placeOf : ℕ → ℕ → ℕ
+placeOf g t = g * 256 + t
+
+abbrev pub roomOf : ℕ → ℕ → ℕ
+roomOf g limit = costAt limit
+
+abbrev pub lowOf : ℕ → ℕ → ℕ
+lowOf g t = g
+
+-- three lists that are goals
+pub record Goals (ps fs gs : List ℕ) : Type 0 where
+  pub places : length ps ≡ length gs
+  pub rooms : length fs ≡ length gs
+  pub few : length gs ≤ 32
+  pub below : (i : ℕ) → getD ps i 0 < 2048
+  pub low : (i : ℕ) → getD gs i 0 < 8
+
+-- the goals of rows with these distances, in three arrays: how many, and the sum of the lows
+pub record Aimed (ts limits gaps places rooms lows : List ℕ) (k floor : ℕ) : Type 0 where
+  pub places-are : places ≡ padded 32 (toGo placeOf gaps ts)
+  pub rooms-are : rooms ≡ padded 32 (toGo roomOf gaps limits)
+  pub lows-are : lows ≡ padded 32 (toGo lowOf gaps ts)
+  pub count-is : k ≡ length (toGo lowOf gaps ts)
+  pub floor-is : floor ≡ sum (toGo lowOf gaps ts)
+
+-- ---- what the choice of a gate is given: the base in two lists, the rows in two more, their distances, and the table
+pub record Choosing (ms ds ts limits gaps h : List ℕ) : Type 0 where
+  pub even : length ms ≡ length ds
+  pub shallow : Shallow ds
+  pub paired : length ts ≡ length limits
+  pub few : length ts ≤ 32
+  pub some : (i : ℕ) → i < length ts → getD ts i 0 ≡ 0 → ⊥
+  pub limited : Shallow limits
+  pub gaps-are : gaps ≡ distances (lines ms ds) (rowsOf ts limits)
+  pub held : Held h (lines ms ds) (greatest gaps)
+
+-- what the weighing of the pairs is given: the base, the goals, the greatest depth, and the sum of the lows
+pub record Weighing (ms ds ps fs gs h : List ℕ) (top floor : ℕ) : Type 0 where
+  pub even : length ms ≡ length ds
+  pub shallow : Shallow ds
+  pub goals : Goals ps fs gs
+  pub cap : Capped h
+  pub deep : top < 16
+  pub floor-is : floor ≡ sum gs
+
+-- the goals' distances after gate g
+abbrev pub goalsWith : List Line → List ℕ → List ℕ → List ℕ → List ℕ → Gate → List ℕ
+goalsWith ls h ps fs gs g = goalsAfter h (made ls g .mask) (2 ^ (made ls g .depth)) ps fs gs
+
+-- a row's distance after a line with mask m and cost c, from its distance before, its mask and its limit
+abbrev pub nextGap : List ℕ → ℕ → ℕ → ℕ → ℕ → ℕ → ℕ
+nextGap h m c zero t d = 0
+nextGap h m c (suc g) t d = g + misses h (placeOf g t) (roomOf g d) m c
+
+abbrev pub nextGaps : List ℕ → ℕ → ℕ → List ℕ → List ℕ → List ℕ → List ℕ
+nextGaps h m c [] ts ds = []
+nextGaps h m c (g ∷ gs) [] ds = []
+nextGaps h m c (g ∷ gs) (t ∷ ts) [] = []
+nextGaps h m c (g ∷ gs) (t ∷ ts) (d ∷ ds) = nextGap h m c g t d ∷ nextGaps h m c gs ts ds
+
+-- the choice: whether every row is made, and if not, the next gate
+pub record Chosen (ls : List Line) (rs : List Row) (over : Bool) (i j : ℕ) : Type 0 where
+  pub over-is : over ≡ eqb (sum (distances ls rs)) 0
+  pub pair : over ≡ false → nextGate ls rs ≡ gate i j
+
+-- ---- the steps
+
+-- what the new distances are made from: the old ones, the rows, and the table
+pub record Lowering (gaps ts limits h : List ℕ) (c : ℕ) : Type 0 where
+  pub rows : length gaps ≡ length ts
+  pub limits-too : length gaps ≡ length limits
+  pub few : length gaps ≤ 32
+  pub near : (i : ℕ) → getD gaps i 0 < 8
+  pub cap : Capped h
+  pub cheap : c ≤ 32768
+
+-- the base that a state holds: the first `len` entries of its two arrays
+unfoldable pub base : State → List Line
+base s = lines (take (s .len) (s .masks)) (take (s .len) (s .depths))
+
+-- a state from which the rule can go on: every row has a distance, and the distances stand in the state
+pub record Poised (ts limits : List ℕ) (s : State) : Type 0 where
+  pub within : s .len < 256
+  pub wide : length (s .masks) ≡ 256
+  pub deep : length (s .depths) ≡ 256
+  pub shallow : Shallow (s .depths)
+  pub paired : length ts ≡ length limits
+  pub few : length ts ≤ 32
+  pub sound : Sounds (rowsOf ts limits)
+  pub small : Small 8 (base s)
+  pub alive : Alive (base s) (rowsOf ts limits)
+  pub near : sum (distances (base s) (rowsOf ts limits)) ≤ 4096
+  pub gaps-are : s .gaps ≡ padded 32 (distances (base s) (rowsOf ts limits))
+
+-- the table of its base, for the distances that are left
+abbrev pub Tabled : List ℕ → List ℕ → State → List ℕ → Type 0
+Tabled ts limits s h = Held h (base s) (greatest (distances (base s) (rowsOf ts limits)))
+
+-- the gate (i, j) is the next one
+pub record Next (ls : List Line) (rs : List Row) (i j : ℕ) : Type 0 where
+  pub left-to-do : eqb (sum (distances ls rs)) 0 ≡ false
+  pub is : nextGate ls rs ≡ gate i j
+
+-- r is s with the gate (i, j), and h the table of r
+pub record Stepped (ts limits : List ℕ) (s r : State) (h : List ℕ) (i j : ℕ) : Type 0 where
+  pub lines-are : base r ≡ base s ++ (made (base s) (gate i j) ∷ [])
+  pub long : r .len ≡ s .len + 1
+  pub counted : r .count ≡ s .count + 1
+  pub lefts : r .left ≡ set (s .left) (s .count) i
+  pub rights : r .right ≡ set (s .right) (s .count) j
+  pub wide : length (r .masks) ≡ 256
+  pub deep : length (r .depths) ≡ 256
+  pub shallow : Shallow (r .depths)
+  pub gaps-are : r .gaps ≡ padded 32 (distances (base r) (rowsOf ts limits))
+  pub tabled : Tabled ts limits r h
+
+-- the state after some steps from the base `first`
+pub record Stands (first : List Line) (ts limits : List ℕ) (s : State) : Type 0 where
+  pub poised : Poised ts limits s
+  pub so-far : List Gate
+  pub counted : length so-far ≡ s .count
+  pub upto : s .count ≤ 224
+  pub written : taken first (rowsOf ts limits) ≡ so-far ++ greedy (224 - s .count) (base s) (rowsOf ts limits)
+  pub ran : run first (taken first (rowsOf ts limits)) ≡ run (base s) (greedy (224 - s .count) (base s) (rowsOf ts limits))
+  pub lefts : s .left ≡ padded 248 (map (λ (g : Gate). g .a) so-far)
+  pub rights : s .right ≡ padded 248 (map (λ (g : Gate). g .b) so-far)
+  pub few-inputs : length first ≤ 8
+  pub long : s .len ≡ length first + s .count
+
+-- the end: all the gates, and all the lines
+pub record Grown (first : List Line) (rs : List Row) (s : State) : Type 0 where
+  pub lines-are : base s ≡ run first (taken first rs)
+  pub lefts : s .left ≡ padded 248 (map (λ (g : Gate). g .a) (taken first rs))
+  pub rights : s .right ≡ padded 248 (map (λ (g : Gate). g .b) (taken first rs))
+  pub counted : s .count ≡ length (taken first rs)
+  pub within : s .len < 256
+
+-- rows that no refusal ahead of 9 stops
+pub record Fit (n : ℕ) (ts : List ℕ) : Type 0 where
+  pub inputs : n ≤ 8
+  pub few : length ts ≤ 32
+  pub some : (i : ℕ) → i < length ts → getD ts i 0 ≡ 0 → ⊥
+  pub below : (i : ℕ) → getD ts i 0 < 2 ^ n
+
+-- the state before the first step
+pub record Begun (n : ℕ) (ts : List ℕ) (s : State) : Type 0 where
+  pub masks-are : s .masks ≡ 1 ∷ 2 ∷ 4 ∷ 8 ∷ 16 ∷ 32 ∷ 64 ∷ 128 ∷ replicate 248 0
+  pub depths-are : s .depths ≡ replicate 256 0
+  pub long : s .len ≡ n
+  pub gaps-are : s .gaps ≡ padded 32 (map (λ (t : ℕ). weight n t - 1) ts)
+  pub lefts : s .left ≡ replicate 248 0
+  pub rights : s .right ≡ replicate 248 0
+  pub none : s .count ≡ 0

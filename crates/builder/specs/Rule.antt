@@ -1,0 +1,154 @@
+-- The greedy rule of "The builder": over a base of lines, and for rows that have a limit each, which gates are taken and which lines the outputs name.
+use mathlib.Core.Bool.{Bool, true, false, cond, _&&_, _||_}
+use mathlib.Core.List.{List, [], _∷_, _++_, map}
+use Prim.Native.Nat.{ℕ, zero, suc, _+_, _-_, _*_}
+use lib.Dec.{leb, ltb, eqb}
+use lib.ListN.{length}
+use Rattle.circuit.specs.Lines.{Listing, greatest}
+use Rattle.circuit.specs.Lines as lines
+use Rattle.distance.specs.Base.{Line, Gate, gate, made, run}
+use Rattle.distance.specs.Distance.{Gap, gates, never, distance}
+
+-- a row: the mask of the inputs that are summed into an output, and the depth that the output may have
+pub record Row : Type 0 where
+  pub mask : ℕ
+  pub limit : ℕ
+
+abbrev pub row : ℕ → ℕ → Row
+row t d = record { mask = t; limit = d }
+
+-- a row's distance from a base, within the row's own limit (masks are bytes: a set of more than 8 lines need not be looked at)
+unfoldable pub reach : List Line → Row → Gap
+reach ls r = distance 8 ls (r .mask) (r .limit)
+
+-- the distance as a number: a row that has none (no row that is accepted) counts for nothing
+abbrev pub count : Gap → ℕ
+count (gates g) = g
+count never = 0
+
+abbrev pub away : List Line → Row → ℕ
+away ls r = count (reach ls r)
+
+abbrev pub distances : List Line → List Row → List ℕ
+distances ls rs = map (away ls) rs
+
+abbrev pub sum : List ℕ → ℕ
+sum [] = 0
+sum (x ∷ xs) = x + sum xs
+
+-- the sum of their squares
+abbrev pub squares : List ℕ → ℕ
+squares [] = 0
+squares (x ∷ xs) = x * x + squares xs
+
+-- a pair may be as deep as the greatest row limit
+abbrev pub deepest : List Row → ℕ
+deepest rs = greatest (map (λ (r : Row). r .limit) rs)
+
+-- a line makes a row: it has the row's mask, and is within its limit
+abbrev pub makes : Row → Line → Bool
+makes r l = eqb (l .mask) (r .mask) && leb (l .depth) (r .limit)
+
+-- ---- a row has distance 1: the lowest such row, and the first pair of lines making it
+module _ (ls : List Line) where
+  -- of the f pairs (i, j), (i, j + 1) and so on, the first that makes r; or g
+  abbrev pub firstIn : Row → ℕ → ℕ → ℕ → Gate → Gate
+  firstIn r zero i j g = g
+  firstIn r (suc f) i j g =
+      let more = firstIn r f i (suc j) g in
+      cond (makes r (made ls (gate i j))) (gate i j) more
+
+  -- of the pairs (i, j) with i < j, ordered by i, then j, whose first line is one of f from i on
+  abbrev pub firstPair : Row → ℕ → ℕ → Gate
+  firstPair r zero i = gate 0 0
+  firstPair r (suc f) i = let more = firstPair r f (suc i) in firstIn r (length ls - suc i) i (suc i) more
+
+  -- the lowest row of distance 1 and its first pair; or g
+  abbrev pub immediate : List Row → Gate → Gate
+  immediate [] g = g
+  immediate (r ∷ rs) g =
+      let more = immediate rs g in
+      let pair = firstPair r (length ls) 0 in
+      cond (eqb (away ls r) 1) pair more
+
+-- ---- otherwise: the pair giving the smallest sum of distances afterwards; on a tie, the largest sum of their squares; on a further tie, the first pair
+
+-- the best pair so far, with the sums that it gives
+pub record Best : Type 0 where
+  pub total : ℕ
+  pub square : ℕ
+  pub pair : Gate
+
+abbrev pub best : ℕ → ℕ → Gate → Best
+best s q g = record { total = s; square = q; pair = g }
+
+-- no pair yet: 32 distances sum to less
+abbrev pub start : Best
+start = best 4096 0 (gate 0 0)
+
+-- a smaller sum, or the same sum and a larger sum of squares
+abbrev pub better : Best → Best → Bool
+better x y = ltb (x .total) (y .total) || (eqb (x .total) (y .total) && ltb (y .square) (x .square))
+
+abbrev pub scored : List ℕ → Gate → Best
+scored ds g = best (sum ds) (squares ds) g
+
+-- `after g` are the distances once gate g is added, and `top` the depth that a pair may have
+module _ (ls : List Line) (after : Gate → List ℕ) (top : ℕ) where
+  -- a pair against the best so far: it must not be too deep, and must be better
+  abbrev pub consider : Gate → Best → Best
+  consider g b =
+      let x = scored (after g) g in
+      let y = cond (better x b) x b in
+      cond (leb (made ls g .depth) top) y b
+
+  -- the f pairs (i, j), (i, j + 1) and so on
+  abbrev pub alongLine : ℕ → ℕ → ℕ → Best → Best
+  alongLine zero i j b = b
+  alongLine (suc f) i j b = alongLine f i (suc j) (consider (gate i j) b)
+
+  -- the pairs whose first line is one of f from i on
+  abbrev pub allPairs : ℕ → ℕ → Best → Best
+  allPairs zero i b = b
+  allPairs (suc f) i b = allPairs f (suc i) (alongLine (length ls - suc i) i (suc i) b)
+
+-- the distances of the rows after a gate
+abbrev pub distancesAfter : List Line → List Row → Gate → List ℕ
+distancesAfter ls rs g = distances (ls ++ (made ls g ∷ [])) rs
+
+abbrev pub bestPair : List Line → List Row → Gate
+bestPair ls rs = allPairs ls (distancesAfter ls rs) (deepest rs) (length ls) 0 start .pair
+
+-- the gate that a step adds
+abbrev pub nextGate : List Line → List Row → Gate
+nextGate ls rs = let other = bestPair ls rs in immediate ls rs other
+
+-- ---- the steps, and the end
+
+-- while some row has a distance above 0, and for at most f steps, a gate is added
+abbrev pub greedy : ℕ → List Line → List Row → List Gate
+greedy zero ls rs = []
+greedy (suc f) ls rs =
+    let g = nextGate ls rs in
+    let more = g ∷ greedy f (ls ++ (made ls g ∷ [])) rs in
+    cond (eqb (sum (distances ls rs)) 0) [] more
+
+-- all the gates: the rows are made by at most 224 (shut, or the number of steps would be unfolded wherever it stands)
+unfoldable pub taken : List Line → List Row → List Gate
+taken ls rs = greedy 224 ls rs
+
+-- the row's lowest line, of lines that are numbered from i on
+abbrev pub lowestFrom : Row → ℕ → List Line → ℕ
+lowestFrom r i [] = 0
+lowestFrom r i (l ∷ ls) = let more = lowestFrom r (suc i) ls in cond (makes r l) i more
+
+abbrev pub lowest : List Line → Row → ℕ
+lowest ls r = lowestFrom r 0 ls
+
+-- gate XOR i j as it stands in a circuit
+abbrev pub xorGate : Gate → lines.Gate
+xorGate g = record { kind = 0; left = g .a; right = g .b }
+
+-- the circuit over a base of n inputs: the gates taken, and each output names its row's lowest line within its limit
+unfoldable pub circuitOf : ℕ → List Line → List Row → Listing
+circuitOf n ls rs = record { inputs = n; gates = map xorGate (taken ls rs); outs = map (lowest (run ls (taken ls rs))) rs }

@@ -1,0 +1,122 @@
+// The steps: the base grows by a gate until every row is made.
+ghost use mathlib.Core.Path.{_≡_};
+ghost use Prim.Native.Nat.{_≤_, _<_};
+ghost use Rattle.builder.specs.Kept.{rowsOf, padded, Capped, base, nextGap, nextGaps, Lowering, Poised, Tabled, Next, Stepped, Stands, Chosen, Grown};
+use crate::pairs::Turn;
+use crate::pairs::above;
+use crate::pairs::greatest_of;
+use crate::pairs::misses;
+use crate::pairs::next_gate;
+use crate::table::add_line;
+use crate::table::fill;
+use distance::table::cost;
+
+// The lines so far, the rows' distances from them, and the operands of the gates taken.
+pub(crate) struct State {
+    pub masks: [u8; 256],
+    pub depths: [u8; 256],
+    pub len: usize,
+    pub gaps: [u8; 32],
+    pub left: [u8; 248],
+    pub right: [u8; 248],
+    pub count: usize,
+}
+
+// A row's distance after a line with mask m and cost c.
+fn lower(h: &[u32; 2304], gap: u8, t: u8, limit: u8, m: u8, c: u32) -> u8
+    requires { ⌜ gap < 9 ⌝ ∗ ⌜ Capped (now h) ⌝ ∗ ⌜ c ≤ 32768 ⌝ }
+    ensures { λ r. ⌜ r ≡ nextGap (now (h .entry)) m c gap t limit ⌝ }
+{
+    if gap == 0 {
+        return 0;
+    }
+    let low = gap - 1;
+    let place = (low as usize) * 256 + (t as usize);
+    low + (misses(h, place, cost(limit), m, c) as u8)
+}
+
+// The rows' distances after a line with mask m and cost c, by a look-up each.
+fn lowered(gaps: &[u8], rows: &[u8], limits: &[u8], h: &[u32; 2304], m: u8, c: u32) -> [u8; 32]
+    requires { ⌜ Lowering (now gaps) (now rows) (now limits) (now h) c ⌝ }
+    ensures { λ r. ⌜ r ≡ padded 32 (nextGaps (now (h .entry)) m c (now (gaps .entry)) (now (rows .entry)) (now (limits .entry))) ⌝ }
+{
+    let mut next = [0u8; 32];
+    for i in 0..gaps.len() {
+        next[i] = lower(h, gaps[i], rows[i], limits[i], m, c);
+    }
+    next
+}
+
+// What a state's next step is to do.
+fn turn(s: State, rows: &[u8], limits: &[u8], h: &[u32; 2304]) -> Turn
+    requires { ⌜ Poised (now rows) (now limits) s ⌝ ∗ ⌜ Tabled (now rows) (now limits) s (now h) ⌝ }
+    ensures { λ r. ⌜ Chosen (base s) (rowsOf (now (rows .entry)) (now (limits .entry))) (r .over) (r .a) (r .b) ⌝ }
+{
+    let len = s.len;
+    let masks = s.masks;
+    let depths = s.depths;
+    let gaps = s.gaps;
+    next_gate(
+        &masks[..len],
+        &depths[..len],
+        rows,
+        limits,
+        &gaps[..rows.len()],
+        h,
+    )
+}
+
+// The state with the gate that reads lines a and b: the distances by the table before the new line, then the table.
+fn add_gate(s: State, rows: &[u8], limits: &[u8], h: &mut [u32; 2304], a: usize, b: usize) -> State
+    requires { ⌜ Poised (now rows) (now limits) s ⌝ ∗ ⌜ Tabled (now rows) (now limits) s (now h) ⌝ ∗ ⌜ Next (base s) (rowsOf (now rows) (now limits)) a b ⌝ ∗ ⌜ s .count < 224 ⌝ }
+    ensures { λ r. ⌜ Stepped (now (rows .entry)) (now (limits .entry)) s r (now (h .exit)) a b ⌝ }
+{
+    let len = s.len;
+    let count = s.count;
+    let mut masks = s.masks;
+    let mut depths = s.depths;
+    let mut left = s.left;
+    let mut right = s.right;
+    let old = s.gaps;
+    let m = masks[a] ^ masks[b];
+    let depth = above(depths[a], depths[b]);
+    let c = cost(depth);
+    let gaps = lowered(&old[..rows.len()], rows, limits, h, m, c);
+    let top = greatest_of(&gaps[..rows.len()]);
+    add_line(h, m, c, top as usize);
+    masks[len] = m;
+    depths[len] = depth;
+    left[count] = a as u8;
+    right[count] = b as u8;
+    State {
+        masks: masks,
+        depths: depths,
+        len: len + 1,
+        gaps: gaps,
+        left: left,
+        right: right,
+        count: count + 1,
+    }
+}
+
+// All the steps: while some row is not made, a gate is added, 224 at most.
+pub(crate) fn grow(start: State, rows: &[u8], limits: &[u8]) -> State
+    requires { ⌜ Stands (base start) (now rows) (now limits) start ⌝ }
+    ensures { λ r. ⌜ Grown (base start) (rowsOf (now (rows .entry)) (now (limits .entry))) r ⌝ }
+{
+    let len = start.len;
+    let masks = start.masks;
+    let depths = start.depths;
+    let gaps = start.gaps;
+    let top = greatest_of(&gaps[..rows.len()]);
+    let mut h = fill(&masks[..len], &depths[..len], top as usize);
+    let mut s = start;
+    while s.count < 224 {
+        let t = turn(s, rows, limits, &h);
+        if t.over {
+            return s;
+        }
+        s = add_gate(s, rows, limits, &mut h, t.a, t.b);
+    }
+    s
+}

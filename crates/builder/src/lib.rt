@@ -1,0 +1,101 @@
+// The builder: from a binary matrix and a depth limit to an XOR program, by the greedy rule.
+mod grow; // grow.rt: the steps
+mod look; // look.rt: what is refused
+mod pairs; // pairs.rt: the choice of the next gate
+mod program; // program.rt: the inputs, the steps, the outputs
+mod table; // table.rt: the table that the choice looks distances up in
+
+ghost use mathlib.Core.Path.{_≡_};
+ghost use lib.ListN.{length};
+ghost use Rattle.circuit.specs.Reading.{refusalNo};
+ghost use Rattle.builder.specs.Call.{planOf, buildAnswer, codeOf, Builds, BuildsNumbered};
+use circuit::Answer;
+use circuit::Circuit;
+use circuit::Refusal;
+use circuit::Writing;
+use circuit::writer::write;
+
+// What a plan gives: the circuit, or an empty one beside the refusal.
+pub struct Planned {
+    pub circuit: Circuit,
+    pub answer: Answer,
+}
+
+// The XOR program that the greedy rule gives for n inputs, these rows and depth limit d, as a circuit.
+pub fn plan(n: usize, rows: &[u8], d: usize) -> Planned
+    ensures { λ r. ⌜ r ≡ planOf n (now (rows .entry)) d ⌝ }
+{
+    let answer = look::look(n, rows, d);
+    match answer {
+        Answer::Refused(why) => {
+            let none = Circuit {
+                n: 0,
+                m: 0,
+                g: 0,
+                kinds: [0u8; 248],
+                left: [0u8; 248],
+                right: [0u8; 248],
+                outputs: [0u8; 32],
+            };
+            Planned {
+                circuit: none,
+                answer: Answer::Refused(why),
+            }
+        }
+        Answer::Done => {
+            let made = program::program(n, rows, d);
+            Planned {
+                circuit: made,
+                answer: Answer::Done,
+            }
+        }
+    }
+}
+
+// The same, stored: its bytes first in the room, the rest of the room as it was.
+pub fn build(n: usize, rows: &[u8], d: usize, room: &mut [u8]) -> Writing
+    ensures { λ r. ⌜ Builds n (now (rows .entry)) d (now (room .entry)) r (now (room .exit)) ⌝ }
+{
+    let p = plan(n, rows, d);
+    let answer = p.answer;
+    match answer {
+        Answer::Refused(why) => Writing::NotWritten(why),
+        Answer::Done => {
+            let made = p.circuit;
+            write(made, room)
+        }
+    }
+}
+
+// The definition's number of a refusal.
+fn number(why: Refusal) -> usize
+    ensures { λ r. ⌜ r ≡ refusalNo why ⌝ }
+{
+    match why {
+        Refusal::Shape => 1,
+        Refusal::Length => 2,
+        Refusal::Mark => 3,
+        Refusal::UnknownKind => 4,
+        Refusal::Operand => 5,
+        Refusal::NoLine => 6,
+        Refusal::NotXor => 7,
+        Refusal::Target => 8,
+        Refusal::TooDeep => 9,
+        Refusal::TooShallow => 10,
+        Refusal::NoRoom => 11,
+        Refusal::NotThere => 12,
+        Refusal::NothingOpen => 13,
+    }
+}
+
+// The same for programs in other languages: how many bytes, or 65536 times the refusal's number.
+#[no_mangle]
+pub extern "C" fn allpawasi_build(n: usize, rows: &[u8], d: usize, room: &mut [u8]) -> usize
+    ensures { λ r. ⌜ BuildsNumbered n (now (rows .entry)) d (now (room .entry)) r (now (room .exit)) ⌝ }
+{
+    let answer = build(n, rows, d, room);
+    match answer {
+        Writing::Written(size) => size,
+        Writing::NotWritten(why) => 65536 * number(why),
+    }
+}

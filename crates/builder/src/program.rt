@@ -1,0 +1,107 @@
+// The program for a matrix that nothing refuses: it begins with the inputs, takes all the steps, and each output then names
+// its row's lowest line.
+ghost use mathlib.Core.List.{map};
+ghost use mathlib.Core.Path.{_≡_};
+ghost use Prim.Native.Nat.{ℕ, _-_, _≤_};
+ghost use lib.ListN.{length};
+ghost use Rattle.circuit.specs.Stored.{held};
+ghost use Rattle.circuit.specs.declared.Answer.the-variants.{Done};
+ghost use Rattle.distance.specs.Base.{lines, weight};
+ghost use Rattle.builder.specs.Rule.{row, lowest as lowestOf};
+ghost use Rattle.builder.specs.Call.{built, refusal};
+ghost use Rattle.builder.specs.Kept.{rowsOf, padded, Fit, Begun};
+use crate::grow::State;
+use crate::grow::grow;
+use crate::look::weight_of;
+use circuit::Circuit;
+
+// The rows' distances from the inputs: the weight less one.
+fn first_gaps(n: usize, rows: &[u8]) -> [u8; 32]
+    requires { ⌜ Fit n (now rows) ⌝ }
+    ensures { λ r. ⌜ r ≡ padded 32 (map (λ (t : ℕ). weight n t - 1) (now (rows .entry))) ⌝ }
+{
+    let mut gaps = [0u8; 32];
+    for i in 0..rows.len() {
+        gaps[i] = (weight_of(n, rows[i]) - 1) as u8;
+    }
+    gaps
+}
+
+// The state before the first step: the inputs at depth 0.
+fn begin(n: usize, rows: &[u8]) -> State
+    requires { ⌜ Fit n (now rows) ⌝ }
+    ensures { λ r. ⌜ Begun n (now (rows .entry)) r ⌝ }
+{
+    let mut masks = [0u8; 256];
+    masks[0] = 1;
+    masks[1] = 2;
+    masks[2] = 4;
+    masks[3] = 8;
+    masks[4] = 16;
+    masks[5] = 32;
+    masks[6] = 64;
+    masks[7] = 128;
+    let gaps = first_gaps(n, rows);
+    State {
+        masks: masks,
+        depths: [0u8; 256],
+        len: n,
+        gaps: gaps,
+        left: [0u8; 248],
+        right: [0u8; 248],
+        count: 0,
+    }
+}
+
+// The number of the row's lowest line within its limit, or 0.
+fn lowest(masks: &[u8], depths: &[u8], t: u8, limit: u8) -> usize
+    requires { ⌜ length (now masks) ≡ length (now depths) ⌝ }
+    ensures { λ r. ⌜ r ≡ lowestOf (lines (now (masks .entry)) (now (depths .entry))) (row t limit) ⌝ }
+{
+    for i in 0..masks.len() {
+        if masks[i] == t {
+            if depths[i] <= limit {
+                return i;
+            }
+        }
+    }
+    0
+}
+
+// The lines that the outputs name.
+pub(crate) fn outputs(masks: &[u8], depths: &[u8], rows: &[u8], limits: &[u8]) -> [u8; 32]
+    requires { ⌜ length (now masks) ≡ length (now depths) ⌝ ∗ ⌜ length (now rows) ≡ length (now limits) ⌝ ∗ ⌜ length (now rows) ≤ 32 ⌝ ∗ ⌜ length (now masks) ≤ 256 ⌝ }
+    ensures { λ r. ⌜ r ≡ padded 32 (map (lowestOf (lines (now (masks .entry)) (now (depths .entry)))) (rowsOf (now (rows .entry)) (now (limits .entry)))) ⌝ }
+{
+    let mut outs = [0u8; 32];
+    for i in 0..rows.len() {
+        outs[i] = lowest(masks, depths, rows[i], limits[i]) as u8;
+    }
+    outs
+}
+
+// The program of a matrix that nothing refuses.
+pub(crate) fn program(n: usize, rows: &[u8], d: usize) -> Circuit
+    requires { ⌜ refusal n (now rows) d ≡ Done ⌝ }
+    ensures { λ r. ⌜ r ≡ held (built n (now (rows .entry)) d) ⌝ }
+{
+    let m = rows.len();
+    let limits = [d as u8; 32];
+    let start = begin(n, rows);
+    let s = grow(start, rows, &limits[..m]);
+    let len = s.len;
+    let masks = s.masks;
+    let depths = s.depths;
+    let left = s.left;
+    let right = s.right;
+    let outs = outputs(&masks[..len], &depths[..len], rows, &limits[..m]);
+    Circuit {
+        n: n,
+        m: m,
+        g: s.count,
+        kinds: [0u8; 248],
+        left: left,
+        right: right,
+        outputs: outs,
+    }
+}
