@@ -2,3 +2,5 @@
 
 pub mod calls;
 pub mod circuits;
+pub mod programs;
+pub mod scripts;

@@ -99,19 +99,3 @@ build-unique n ts D room r s out out′ a b = (a .answer ∙ sym (b .answer), a 
 
 pub numbered-unique : (n : ℕ) (ts : List ℕ) (D : ℕ) (room : List ℕ) (r s : ℕ) (out out′ : List ℕ) → BuildsNumbered n ts D room r out → BuildsNumbered n ts D room s out′ → (r ≡ s) × (out ≡ out′)
 numbered-unique n ts D room r s out out′ a b = (a .answer ∙ sym (b .answer), a .bytes ∙ sym (b .bytes))
-
--- the refusals' numbers are small
-pub number-le : (w : Refusal) → refusalNo w ≤ 13
-number-le Shape = omega arith
-number-le Length = omega arith
-number-le Mark = omega arith
-number-le UnknownKind = omega arith
-number-le Operand = omega arith
-number-le NoLine = omega arith
-number-le NotXor = omega arith
-number-le Target = omega arith
-number-le TooDeep = omega arith
-number-le TooShallow = omega arith
-number-le NoRoom = omega arith
-number-le NotThere = omega arith
-number-le NothingOpen = omega arith

@@ -12,8 +12,8 @@ use Rattle.circuit.specs.declared.Writing.{Writing}
 use Rattle.circuit.specs.declared.Writing.the-variants.{Written, NotWritten}
 use Rattle.circuit.specs.Lines.{Listing, anyOf}
 use Rattle.circuit.specs.Stored.{stored, held, noCircuit}
-use Rattle.circuit.specs.Reading.{shaped, unless, refusalNo}
-use Rattle.circuit.specs.Writing.{roomAfter}
+use Rattle.circuit.specs.Reading.{shaped, unless}
+use Rattle.circuit.specs.Writing.{roomAfter, writingCode}
 use Rattle.distance.specs.Base.{inputs, weight}
 use Rattle.builder.specs.declared.Planned.{Planned}
 use Rattle.builder.specs.Rule.{Row, row, circuitOf}
@@ -63,12 +63,7 @@ pub record Builds (n : ℕ) (ts : List ℕ) (D : ℕ) (room : List ℕ) (r : Wri
   pub answer : r ≡ buildAnswer n ts D (length room)
   pub bytes : out ≡ roomAfter (buildAnswer n ts D (length room)) (stored (built n ts D)) room
 
--- an answer as one number: how many bytes, or 65536 times the refusal's number
-abbrev pub codeOf : Writing → ℕ
-codeOf (Written k) = k
-codeOf (NotWritten w) = 65536 * refusalNo w
-
--- what the exported form of `build` promises: the answer as one number, and the room the same
+-- what `build_no` promises: the answer as one number, and the room the same
 pub record BuildsNumbered (n : ℕ) (ts : List ℕ) (D : ℕ) (room : List ℕ) (r : ℕ) (out : List ℕ) : Type 0 where
-  pub answer : r ≡ codeOf (buildAnswer n ts D (length room))
+  pub answer : r ≡ writingCode (buildAnswer n ts D (length room))
   pub bytes : out ≡ roomAfter (buildAnswer n ts D (length room)) (stored (built n ts D)) room

@@ -6,13 +6,11 @@ mod program; // program.rt: the inputs, the steps, the outputs
 mod table; // table.rt: the table that the choice looks distances up in
 
 ghost use mathlib.Core.Path.{_≡_};
-ghost use lib.ListN.{length};
-ghost use Rattle.circuit.specs.Reading.{refusalNo};
-ghost use Rattle.builder.specs.Call.{planOf, buildAnswer, codeOf, Builds, BuildsNumbered};
+ghost use Rattle.builder.specs.Call.{planOf, Builds, BuildsNumbered};
 use circuit::Answer;
 use circuit::Circuit;
-use circuit::Refusal;
 use circuit::Writing;
+use circuit::restore::writing_code;
 use circuit::writer::write;
 
 // What a plan gives: the circuit, or an empty one beside the refusal.
@@ -67,35 +65,10 @@ pub fn build(n: usize, rows: &[u8], d: usize, room: &mut [u8]) -> Writing
     }
 }
 
-// The definition's number of a refusal.
-fn number(why: Refusal) -> usize
-    ensures { λ r. ⌜ r ≡ refusalNo why ⌝ }
-{
-    match why {
-        Refusal::Shape => 1,
-        Refusal::Length => 2,
-        Refusal::Mark => 3,
-        Refusal::UnknownKind => 4,
-        Refusal::Operand => 5,
-        Refusal::NoLine => 6,
-        Refusal::NotXor => 7,
-        Refusal::Target => 8,
-        Refusal::TooDeep => 9,
-        Refusal::TooShallow => 10,
-        Refusal::NoRoom => 11,
-        Refusal::NotThere => 12,
-        Refusal::NothingOpen => 13,
-    }
-}
-
-// The same for programs in other languages: how many bytes, or 65536 times the refusal's number.
-#[no_mangle]
-pub extern "C" fn allpawasi_build(n: usize, rows: &[u8], d: usize, room: &mut [u8]) -> usize
+// The same with one number for its answer: how many bytes, or 65,536 times the refusal's number.
+pub fn build_no(n: usize, rows: &[u8], d: usize, room: &mut [u8]) -> usize
     ensures { λ r. ⌜ BuildsNumbered n (now (rows .entry)) d (now (room .entry)) r (now (room .exit)) ⌝ }
 {
     let answer = build(n, rows, d, room);
-    match answer {
-        Writing::Written(size) => size,
-        Writing::NotWritten(why) => 65536 * number(why),
-    }
+    writing_code(answer)
 }

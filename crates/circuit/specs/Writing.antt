@@ -52,7 +52,7 @@ restoring (Refused w) size room = NotWritten w
 abbrev pub restoreAnswer : Bool → List ℕ → ℕ → Writing
 restoreAnswer only s room = restoring (readAnswer only s) (length s) room
 
--- what `allpawasi_restore` promises: an accepted circuit's bytes come out as they went in
+-- what `restored` promises: an accepted circuit's bytes come out as they went in
 pub record Restored (only : Bool) (s room : List ℕ) (r : ℕ) (out : List ℕ) : Type 0 where
   pub answer : r ≡ writingCode (restoreAnswer only s (length room))
   pub bytes : out ≡ roomAfter (restoreAnswer only s (length room)) s room

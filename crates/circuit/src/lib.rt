@@ -6,7 +6,7 @@ ghost use Rattle.circuit.specs.Reading.{refusalNo};
 pub mod gate; // gate.rt: one gate on whole words, its counts and what it reads
 pub mod reader; // reader.rt: stored bytes to a circuit
 pub mod writer; // writer.rt: a circuit to stored bytes in a lent room
-pub mod restore; // restore.rt: both in one call, for other languages
+pub mod restore; // restore.rt: both in one call
 
 // A circuit by value: gate k is `kinds[k]`, `left[k]`, `right[k]`. Zeros past the last gate and output.
 pub struct Circuit {

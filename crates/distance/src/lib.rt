@@ -42,14 +42,7 @@ pub fn distance(n: usize, masks: &[u8], depths: &[u8], target: usize, d: usize) 
 }
 
 // The same as one number, for programs in other languages: the gates, 99 for none, 100 and a refusal's number.
-#[no_mangle]
-pub extern "C" fn allpawasi_distance(
-    n: usize,
-    masks: &[u8],
-    depths: &[u8],
-    target: usize,
-    d: usize,
-) -> u64
+pub fn distance_no(n: usize, masks: &[u8], depths: &[u8], target: usize, d: usize) -> u64
     ensures { λ r. ⌜ r ≡ answerNo (answerOf n (now (masks .entry)) (now (depths .entry)) target d) ⌝ }
 {
     let answer = distance(n, masks, depths, target, d);

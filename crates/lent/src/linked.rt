@@ -1,4 +1,8 @@
 // What other languages link: the outer calls on a lent bench, with numbers for answers. A bench of zeros has nothing open.
+ghost use mathlib.Core.Path.{_≡_};
+ghost use Rattle.circuit.specs.Writing.{Restored};
+ghost use Rattle.distance.specs.Query.{answerNo, answerOf};
+ghost use Rattle.builder.specs.Call.{BuildsNumbered};
 ghost use Rattle.bench.specs.Target.{matrix, table};
 ghost use Rattle.bench.specs.Parts.{limits};
 ghost use Rattle.coded.specs.Coded.{OpenCode, GateCode, OutputCode, EntryCode, LimitsCode, ReportCodePromise, StoreCode};
@@ -105,4 +109,34 @@ pub extern "C" fn allpawasi_store(bench: &Bench, room: &mut [u8]) -> usize
     ensures { λ r. ⌜ StoreCode (now (bench .entry)) (now (room .entry)) r (now (room .exit)) ⌝ }
 {
     coded::store(*bench, room)
+}
+
+// Reads a stored circuit and stores it again. `only`: no gate but XOR is allowed.
+#[no_mangle]
+pub extern "C" fn allpawasi_restore(bytes: &[u8], only: bool, room: &mut [u8]) -> usize
+    ensures { λ r. ⌜ Restored only (now (bytes .entry)) (now (room .entry)) r (now (room .exit)) ⌝ }
+{
+    circuit::restore::restored(bytes, only, room)
+}
+
+// Builds an XOR program: how many bytes stand first in the room, or 65,536 times the refusal's number.
+#[no_mangle]
+pub extern "C" fn allpawasi_build(n: usize, rows: &[u8], d: usize, room: &mut [u8]) -> usize
+    ensures { λ r. ⌜ BuildsNumbered n (now (rows .entry)) d (now (room .entry)) r (now (room .exit)) ⌝ }
+{
+    builder::build_no(n, rows, d, room)
+}
+
+// The fewest XOR gates that make a target over a base; 99 where no program does; 100 and the refusal's number.
+#[no_mangle]
+pub extern "C" fn allpawasi_distance(
+    n: usize,
+    masks: &[u8],
+    depths: &[u8],
+    target: usize,
+    d: usize,
+) -> u64
+    ensures { λ r. ⌜ r ≡ answerNo (answerOf n (now (masks .entry)) (now (depths .entry)) target d) ⌝ }
+{
+    distance::distance_no(n, masks, depths, target, d)
 }

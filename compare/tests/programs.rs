@@ -1,0 +1,130 @@
+//! The linked programs beside the independent ones, in a stack of 1 MiB: random scripts and inputs, long lines, input that
+//! ends anywhere, bytes that mean nothing, and an output that nobody reads.
+
+use compare::programs::{run, start};
+use compare::scripts::script;
+use reference::rng::Rng;
+use reference::{desk, program};
+use std::io::{Read, Write};
+
+/// The program writes what the independent one writes, and ends well.
+fn same(name: &str, input: &[u8], expected: &[u8]) {
+    let output = run(name, input);
+    assert!(output.status.success(), "{name} ended with {:?} on {input:02X?}", output.status);
+    if output.stdout != expected {
+        let at = output.stdout.iter().zip(expected).take_while(|(a, b)| a == b).count();
+        let line = expected[..at].iter().filter(|&&b| b == b'\n').count();
+        let near = |s: &[u8]| String::from_utf8_lossy(&s[at.saturating_sub(80).min(s.len())..(at + 80).min(s.len())]).into_owned();
+        panic!("{name} differs in answer line {line}: {:?} for {:?}", near(&output.stdout), near(expected));
+    }
+}
+
+#[test]
+fn random_scripts() {
+    let mut rng = Rng::new(11);
+    for _ in 0..60 {
+        let text = script(&mut rng, 3_000);
+        same("desk", &text, &desk::run(&text));
+    }
+}
+
+#[test]
+fn a_script_of_a_hundred_thousand_calls() {
+    let text = script(&mut Rng::new(12), 100_000);
+    same("desk", &text, &desk::run(&text));
+}
+
+#[test]
+fn lines_around_the_longest() {
+    for length in [65_533, 65_534, 65_535, 65_536, 65_537, 65_538, 65_539, 131_072, 200_000] {
+        for end in [&b"\n"[..], b"\r\n", b""] {
+            for first in [b"#", b" ", b"x"] {
+                let mut text = b"report\n".to_vec();
+                text.extend(first);
+                text.resize(7 + length, b' ');
+                text.extend(end);
+                if !end.is_empty() {
+                    text.extend(b"report\n");
+                }
+                same("desk", &text, &desk::run(&text));
+            }
+        }
+    }
+}
+
+#[test]
+fn input_that_ends_anywhere() {
+    let mut rng = Rng::new(13);
+    let text = script(&mut rng, 60);
+    for _ in 0..400 {
+        let end = rng.below(text.len() as u64 + 1) as usize;
+        same("desk", &text[..end], &desk::run(&text[..end]));
+    }
+}
+
+#[test]
+fn bytes_that_mean_nothing() {
+    let mut rng = Rng::new(14);
+    for _ in 0..1_000 {
+        let bytes: Vec<u8> = (0..rng.below(600)).map(|_| rng.below(256) as u8).collect();
+        same("desk", &bytes, &desk::run(&bytes));
+        same("build", &bytes, &program::run(&bytes));
+    }
+}
+
+#[test]
+fn random_matrices() {
+    let mut rng = Rng::new(15);
+    for _ in 0..600 {
+        let n = rng.between(1, 8);
+        let m = rng.between(1, 32);
+        let mut input = vec![n as u8, m as u8, rng.below(17) as u8];
+        input.extend(rng.rows(n, m));
+        match rng.below(8) {
+            0 => input.push(1),
+            1 => {
+                input.pop();
+            }
+            2 => {
+                let at = rng.below(input.len() as u64) as usize;
+                input[at] = rng.below(256) as u8;
+            }
+            _ => {}
+        }
+        same("build", &input, &program::run(&input));
+    }
+}
+
+/// A person sees each answer before the next line is typed.
+#[test]
+fn an_answer_comes_before_the_next_line() {
+    let mut child = start("desk");
+    let (mut stdin, mut stdout) = (child.stdin.take().expect("piped"), child.stdout.take().expect("piped"));
+    for _ in 0..3 {
+        stdin.write_all(b"rep").expect("it reads");
+        stdin.flush().expect("it reads");
+        stdin.write_all(b"ort\n").expect("it reads");
+        let mut answer = [0; 11];
+        stdout.read_exact(&mut answer).expect("it answers");
+        assert_eq!(&answer, b"refused 13\n");
+    }
+    drop(stdin);
+    assert!(child.wait().expect("it ends").success());
+}
+
+/// Nobody reads: the program ends, by the system's signal or by itself, and does not crash.
+#[test]
+fn an_output_that_is_closed() {
+    use std::os::unix::process::ExitStatusExt;
+    let mut child = start("desk");
+    drop(child.stdout.take());
+    let mut stdin = child.stdin.take().expect("piped");
+    for _ in 0..1_000 {
+        if stdin.write_all(b"report\n").is_err() {
+            break;
+        }
+    }
+    drop(stdin);
+    let status = child.wait().expect("it ends");
+    assert!(status.success() || status.signal() == Some(13), "{status:?}");
+}

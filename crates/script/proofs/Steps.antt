@@ -1,0 +1,138 @@
+-- Laws of reading a line word by word: a word that was read, one that is not what it should be, a cursor that is not readable. Assumes nothing.
+use mathlib.Core.Path.{_≡_, refl, ap, _∙_, sym}
+use mathlib.Core.Bool.{Bool, true, false, cond}
+use mathlib.Core.List.{List}
+use Prim.Native.Nat.{ℕ, _+_, _-_, _≤_, _<_}
+use native.Mathlib.Omega.{arith}
+use borrow.Author.Tests.{lt-ltb, le-ltb, le-leb, lt-leb}
+use lib.ListN.{length, take, drop, length-drop, length-take}
+use Rattle.text.specs.declared.Number.{Number}
+use Rattle.text.specs.declared.Number.the-variants.{Value, Not}
+use Rattle.text.specs.Places.{headWord, tailWords, sameList, Next}
+use Rattle.text.specs.Numbers.{numberIn}
+use Rattle.text.proofs.Places.{part-length}
+use Rattle.script.specs.declared.words.Cursor.{Cursor}
+use Rattle.script.specs.Order.{Order, unreadable}
+use Rattle.script.specs.Reading.{Rest, onValue, number, limit, kind, nothing, matrixName, tableName}
+use Rattle.script.specs.Cursors.{onward, Took, Ends}
+
+-- ---- places
+
+-- a word and what follows it are no longer than the whole
+parts-le : (s : List ℕ) → length (headWord s) + length (tailWords s) ≤ length s
+unfolding headWord tailWords
+parts-le s = simp (length-take, length-drop) (omega arith)
+
+-- a word stands at or after the place where it was looked for
+pub word-after : {line : List ℕ} {at from to : ℕ} → at ≤ length line → Next line at from to → at ≤ from
+word-after {line} {at} {from} {to} h n =
+    omega (
+      arith,
+      parts-le (drop at line),
+      length-drop at line,
+      length-drop to line,
+      ap length (n .rest),
+      ap length (n .word),
+      part-length line at from to n,
+      n .order,
+      n .inside,
+    )
+
+-- a word is as long as its places say
+pub word-length : {line : List ℕ} {at from to : ℕ} → Next line at from to → length (headWord (drop at line)) ≡ to - from
+word-length {line} {at} {from} {to} n = ap length (sym (n .word)) ∙ part-length line at from to n
+
+-- a test of a word is one of the part where it stands
+pub word-test : {line : List ℕ} {at from to : ℕ} {r b : Bool} (test : List ℕ → Bool) → Next line at from to
+    → r ≡ test (take (to - from) (drop from line)) → r ≡ b → test (headWord (drop at line)) ≡ b
+word-test test n e t = ap test (sym (n .word)) ∙ sym e ∙ t
+
+-- ---- cursors
+
+-- no test is both
+pub clash : {A : Type 0} {b : Bool} → b ≡ false → b ≡ true → A
+clash e t = let z : _≡_ {A = ℕ} 0 1 = cc in absurd (omega arith)
+
+module _ {A : Type 0} {word : (A → Rest) → Rest} {line : List ℕ} {c : Cursor} {value : A} where
+  -- nothing is read at a cursor that is not readable
+  pub took-none : c .at ≤ length line → c .readable ≡ false → Took word line c value c
+  unfolding onward
+  took-none h e = record { forward = omega arith; inside = h; asks = λ f. rw e; kept = clash e }
+
+  module _ {from to : ℕ} (h : c .at ≤ length line) (e : c .readable ≡ true) (n : Next line (c .at) from to) where
+    -- a word was read
+    pub took-word : ((f : A → Rest) → word f (drop (c .at) line) ≡ f value (tailWords (drop (c .at) line)))
+        → Took word line c value (record { readable = true; at = to })
+    unfolding onward
+    took-word w =
+        record {
+          forward = omega (arith, word-after h n, n .order);
+          inside = n .inside;
+          asks = λ f. rw e (w f ∙ ap (f value) (sym (n .rest)));
+          kept = λ t. (e, n .rest);
+        }
+
+    -- a word is not what it should be
+    pub took-lost : ((f : A → Rest) → word f (drop (c .at) line) ≡ unreadable)
+        → Took word line c value (record { readable = false; at = to })
+    unfolding onward
+    took-lost w =
+        record {
+          forward = omega (arith, word-after h n, n .order);
+          inside = n .inside;
+          asks = λ f. rw e (w f);
+          kept = clash refl;
+        }
+
+-- ---- numbers and limits
+
+pub number-value : (s : List ℕ) (v : ℕ) → numberIn (headWord s) ≡ Value v → (f : ℕ → Rest) → number f s ≡ f v (tailWords s)
+unfolding number
+number-value s v e f = ap (λ (x : Number). onValue x (λ (k : ℕ). f k (tailWords s))) e
+
+pub number-not : (s : List ℕ) → numberIn (headWord s) ≡ Not → (f : ℕ → Rest) → number f s ≡ unreadable
+unfolding number
+number-not s e f = ap (λ (x : Number). onValue x (λ (k : ℕ). f k (tailWords s))) e
+
+pub same-either : (t : Bool) (o : Order) → cond t o o ≡ o
+same-either true o = refl
+same-either false o = refl
+
+module _ {line : List ℕ} {c : Cursor} {v : ℕ} {rest : Cursor} (t : Took number line c v rest) where
+  pub limit-value : v ≤ 255 → Took limit line c v rest
+  unfolding limit onward
+  limit-value h = record { forward = t .forward; inside = t .inside; asks = λ f. t .asks _ ∙ simp (le-leb v 255 h); kept = t .kept }
+
+  pub limit-not : 255 < v → {w : ℕ} → Took limit line c w (record { readable = false; at = rest .at })
+  unfolding limit onward
+  limit-not h = record { forward = t .forward; inside = t .inside; asks = λ f. t .asks _ ∙ simp (lt-leb v 255 h) (same-either (rest .readable) unreadable); kept = clash refl }
+
+-- ---- the kind of a target, and the end of a line
+
+module _ (s : List ℕ) where
+  pub kind-matrix : sameList (headWord s) matrixName ≡ true → (f : Bool → Rest) → kind f s ≡ f true (tailWords s)
+  unfolding kind
+  kind-matrix e f = rw e
+
+  module _ (n : sameList (headWord s) matrixName ≡ false) where
+    pub kind-table : sameList (headWord s) tableName ≡ true → (f : Bool → Rest) → kind f s ≡ f false (tailWords s)
+    unfolding kind
+    kind-table e f = rw (n, e)
+
+    pub kind-not : sameList (headWord s) tableName ≡ false → (f : Bool → Rest) → kind f s ≡ unreadable
+    unfolding kind
+    kind-not e f = rw (n, e)
+
+module _ {line : List ℕ} {c : Cursor} where
+  pub ends-none : c .readable ≡ false → Ends line c false
+  unfolding onward
+  ends-none e = record { asks = λ o. rw e; kept = clash refl }
+
+  module _ {from to : ℕ} (e : c .readable ≡ true) (n : Next line (c .at) from to) where
+    pub ends-not : from < to → Ends line c false
+    unfolding nothing onward
+    ends-not h = record { asks = λ o. rw (e, lt-ltb 0 (length (headWord (drop (c .at) line))) (omega (arith, word-length n))); kept = clash refl }
+
+    pub ends-here : to ≤ from → Ends line c true
+    unfolding nothing onward
+    ends-here h = record { asks = λ o. rw (e, le-ltb 0 (length (headWord (drop (c .at) line))) (omega (arith, word-length n))); kept = λ t. e }

@@ -1,0 +1,172 @@
+-- The call language: what a line asks. A reader of a word goes on with what the word says and with the rest of the line.
+use mathlib.Core.Bool.{Bool, true, false, cond}
+use mathlib.Core.List.{List, [], _∷_}
+use Prim.Native.Nat.{ℕ, _%_}
+use lib.Dec.{eqb, leb, ltb}
+use lib.ListN.{length, getD}
+use Rattle.text.specs.declared.Number.{Number}
+use Rattle.text.specs.declared.Number.the-variants.{Value, Not}
+use Rattle.text.specs.Places.{headWord, tailWords, sameList}
+use Rattle.text.specs.Numbers.{numberIn, allHex, hexBytes}
+use Rattle.script.specs.Order.{Order, silent, unreadable, askNew, askOpenMatrix, askOpenTable, askReport, askGate}
+use Rattle.script.specs.Order.{askOutput, askEntry, askLimits, askStore, askHeld, askShow, askBuild, askDistance}
+
+-- what the rest of a line asks
+abbrev pub Rest : Type 0
+Rest = List ℕ → Order
+
+-- on with a number's value; unreadable where there is none
+abbrev pub onValue : Number → (ℕ → Order) → Order
+onValue (Value v) f = f v
+onValue Not f = unreadable
+
+-- a number, 0 to 2^64 - 1
+unfoldable pub number : (ℕ → Rest) → Rest
+number f s = onValue (numberIn (headWord s)) (λ (v : ℕ). f v (tailWords s))
+
+-- a number that a limit holds, 0 to 255
+unfoldable pub limit : (ℕ → Rest) → Rest
+limit f = number (λ (v : ℕ) (s : List ℕ). cond (leb v 255) (f v s) unreadable)
+
+-- whether a word is pairs of hexadecimal digits, one pair or more
+unfoldable pub isPairs : List ℕ → Bool
+isPairs w = cond (ltb 0 (length w)) (cond (eqb (length w % 2) 0) (allHex w) false) false
+
+-- whether a word says bytes: pairs of digits, or `-` for none
+abbrev pub isHex : List ℕ → Bool
+isHex w = cond (sameList w (45 ∷ [])) true (isPairs w)
+
+-- bytes; `-` alone is no pair, so it says none
+unfoldable pub hex : (List ℕ → Rest) → Rest
+hex f s = cond (isHex (headWord s)) (f (hexBytes (headWord s)) (tailWords s)) unreadable
+
+-- the word `matrix`
+abbrev pub matrixName : List ℕ
+matrixName = 109 ∷ 97 ∷ 116 ∷ 114 ∷ 105 ∷ 120 ∷ []
+
+-- the word `table`
+abbrev pub tableName : List ℕ
+tableName = 116 ∷ 97 ∷ 98 ∷ 108 ∷ 101 ∷ []
+
+-- a target's kind, by its word: whether it is a matrix
+unfoldable pub kind : (Bool → Rest) → Rest
+kind f s =
+    cond (sameList (headWord s) matrixName) (f true (tailWords s))
+    (cond (sameList (headWord s) tableName) (f false (tailWords s)) unreadable)
+
+-- no word more
+unfoldable pub nothing : Order → Rest
+nothing o s = cond (ltb 0 (length (headWord s))) unreadable o
+
+-- an open, by the kind of its target
+abbrev pub askOpen : Bool → List ℕ → List ℕ → ℕ → ℕ → ℕ → Order
+askOpen isMatrix bytes target g d a = cond isMatrix (askOpenMatrix bytes target g d a) (askOpenTable bytes target g d a)
+
+-- `open HEX matrix HEX G D A` or `open HEX table HEX G D A`
+abbrev pub openIn : Rest
+openIn = hex (λ bytes. kind (λ isMatrix. hex (λ target. limit (λ g. limit (λ d. limit (λ a. nothing (askOpen isMatrix bytes target g d a)))))))
+
+-- `gate K KIND A B`
+abbrev pub gateIn : Rest
+gateIn = number (λ k. number (λ t. number (λ a. number (λ b. nothing (askGate k t a b)))))
+
+-- `output J LINE`
+abbrev pub outputIn : Rest
+outputIn = number (λ j. number (λ line. nothing (askOutput j line)))
+
+-- `entry I VALUE`
+abbrev pub entryIn : Rest
+entryIn = number (λ i. number (λ value. nothing (askEntry i value)))
+
+-- `limits G D A`
+abbrev pub limitsIn : Rest
+limitsIn = limit (λ g. limit (λ d. limit (λ a. nothing (askLimits g d a))))
+
+-- `store ROOM`
+abbrev pub storeIn : Rest
+storeIn = number (λ room. nothing (askStore room))
+
+-- `build N ROWSHEX D ROOM`
+abbrev pub buildIn : Rest
+buildIn = number (λ n. hex (λ rows. number (λ d. number (λ room. nothing (askBuild n rows d room)))))
+
+-- `distance N MASKSHEX DEPTHSHEX T D`
+abbrev pub distanceIn : Rest
+distanceIn = number (λ n. hex (λ masks. hex (λ depths. number (λ t. number (λ d. nothing (askDistance n masks depths t d))))))
+
+-- the word `new`
+abbrev pub newName : List ℕ
+newName = 110 ∷ 101 ∷ 119 ∷ []
+
+-- the word `report`
+abbrev pub reportName : List ℕ
+reportName = 114 ∷ 101 ∷ 112 ∷ 111 ∷ 114 ∷ 116 ∷ []
+
+-- the word `held`
+abbrev pub heldName : List ℕ
+heldName = 104 ∷ 101 ∷ 108 ∷ 100 ∷ []
+
+-- the word `show`
+abbrev pub showName : List ℕ
+showName = 115 ∷ 104 ∷ 111 ∷ 119 ∷ []
+
+-- the word `gate`
+abbrev pub gateName : List ℕ
+gateName = 103 ∷ 97 ∷ 116 ∷ 101 ∷ []
+
+-- the word `output`
+abbrev pub outputName : List ℕ
+outputName = 111 ∷ 117 ∷ 116 ∷ 112 ∷ 117 ∷ 116 ∷ []
+
+-- the word `entry`
+abbrev pub entryName : List ℕ
+entryName = 101 ∷ 110 ∷ 116 ∷ 114 ∷ 121 ∷ []
+
+-- the word `limits`
+abbrev pub limitsName : List ℕ
+limitsName = 108 ∷ 105 ∷ 109 ∷ 105 ∷ 116 ∷ 115 ∷ []
+
+-- the word `open`
+abbrev pub openName : List ℕ
+openName = 111 ∷ 112 ∷ 101 ∷ 110 ∷ []
+
+-- the word `store`
+abbrev pub storeName : List ℕ
+storeName = 115 ∷ 116 ∷ 111 ∷ 114 ∷ 101 ∷ []
+
+-- the word `build`
+abbrev pub buildName : List ℕ
+buildName = 98 ∷ 117 ∷ 105 ∷ 108 ∷ 100 ∷ []
+
+-- the word `distance`
+abbrev pub distanceName : List ℕ
+distanceName = 100 ∷ 105 ∷ 115 ∷ 116 ∷ 97 ∷ 110 ∷ 99 ∷ 101 ∷ []
+
+-- a table of calls: each word, and what the rest of the line asks after it
+abbrev pub Table : Type 0
+Table = List (List ℕ × Rest)
+
+-- what the rest of a line asks after the word w; a word that the table does not have is unreadable
+unfoldable pub byWord : Table → List ℕ → Rest
+byWord [] w s = unreadable
+byWord (row ∷ rows) w s = cond (sameList w (row .0)) (row .1 s) (byWord rows w s)
+
+-- calls that bring or take bytes
+abbrev pub bytesCalls : Table
+bytesCalls = (openName, openIn) ∷ (storeName, storeIn) ∷ (buildName, buildIn) ∷ (distanceName, distanceIn) ∷ []
+
+-- those, and edits
+abbrev pub editCalls : Table
+editCalls = (gateName, gateIn) ∷ (outputName, outputIn) ∷ (entryName, entryIn) ∷ (limitsName, limitsIn) ∷ bytesCalls
+
+-- those, and calls of one word: the whole language
+abbrev pub calls : Table
+calls = (newName, nothing askNew) ∷ (reportName, nothing askReport) ∷ (heldName, nothing askHeld) ∷ (showName, nothing askShow) ∷ editCalls
+
+-- what a line asks: nothing where it is blank or its first byte is `#`; too long a line is unreadable whatever it says
+unfoldable pub orderIn : List ℕ → Order
+orderIn line =
+    cond (ltb 65535 (length line)) unreadable
+    (cond (ltb 0 (length (headWord line)))
+    (cond (eqb (getD line 0 0) 35) silent (byWord calls (headWord line) (tailWords line)))
+    silent)

@@ -1,0 +1,36 @@
+-- What is said first in a room: a text that was put there is its first bytes. Assumes nothing.
+use mathlib.Core.Path.{_≡_, refl, ap, _∙_, sym}
+use mathlib.Core.List.{List, []}
+use Prim.Native.Nat.{ℕ, _+_, _≤_, _<_, min}
+use native.Mathlib.Omega.{arith}
+use native.Mathlib.Decide.{decLt}
+use lib.ListN.{length, take, drop}
+use lib.Seq.{take-at, take-all}
+use Rattle.text.specs.Putting.{Put}
+use Rattle.text.proofs.Putting.{counted}
+use Rattle.talk.specs.Saying.{Said}
+
+-- a text that was put at the start of a room, within it
+pub said : {before after : List ℕ} {r : ℕ} {s : List ℕ} → r ≤ length after → Put before 0 s after r → Said after r s
+said {before} {after} {r} {s} h p =
+    record {
+      counts = counted r after h;
+      says = ap (take r) (p .room) ∙ take-at s (drop (0 + length s) before) r (omega (arith, p .next));
+    }
+
+-- the same text by another name
+pub said-as : {room : List ℕ} {r : ℕ} {s t : List ℕ} → s ≡ t → Said room r s → Said room r t
+said-as e h = record { counts = h .counts; says = h .says ∙ e }
+
+-- more than all of a list is all of it
+pub take-least : (k most : ℕ) (l : List ℕ) → length l ≡ most → take (min k most) l ≡ take k l
+take-least k most l e = by (decLt k most) where
+  by : Dec (k < most) → take (min k most) l ≡ take k l
+  by (yes h) = let m : min k most ≡ k = omega arith in ap (λ (x : ℕ). take x l) m
+  by (no h) =
+      let m : min k most ≡ most = omega (arith, h) in
+      ap (λ (x : ℕ). take x l) m ∙ take-all most l (omega arith) ∙ sym (take-all k l (omega (arith, h)))
+
+-- nothing is said
+pub silent-said : (room : List ℕ) → Said room 0 []
+silent-said room = record { counts = counted 0 room (omega arith); says = refl }

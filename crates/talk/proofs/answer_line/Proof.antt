@@ -1,0 +1,203 @@
+-- `talk::answer_line` meets its contract. Assumes nothing.
+use mathlib.Core.Path.{_≡_, refl, ap, sym, _∙_, subst}
+use Rattle.script.specs.declared.Call.{Call}
+use Rattle.script.specs.Order.{orderOf}
+use Rattle.script.specs.Reading.{orderIn}
+use Rattle.script.specs.Placed.{Placed}
+use Rattle.talk.proofs.Spoken.{silent-said}
+use Rattle.talk.proofs.Telling.{answers, answers-as}
+use borrow.Author.Needs.{needs}
+use Rattle.talk.proofs.answer_line.Statement.{statement}
+use Rattle.talk.proofs.answer_line.Tie as tie
+
+-- what a call that was found asks, and where its parts stand
+asked : (q : tie.After-call-in) (call : Call) → q .call-in .result ≡ call → let line = q .before .before .args .line .now in orderOf line call ≡ orderIn line
+asked q call e = ap (orderOf (q .before .before .args .line .now)) (sym e) ∙ q .call-in .ensures .meaning
+
+placed : (q : tie.After-call-in) (call : Call) → q .call-in .result ≡ call → Placed (q .before .before .args .line .now) call
+placed q call e = subst (Placed (q .before .before .args .line .now)) e (q .call-in .ensures .places)
+
+call-in-requires : tie.Need-call-in-requires
+call-in-requires c κs = search needs
+
+enum-told : tie.Need-enum-told
+enum-told c = search needs
+
+enum-told-2 : tie.Need-enum-told-2
+enum-told-2 c = search needs
+
+tell-unreadable-requires : tie.Need-tell-unreadable-requires
+tell-unreadable-requires c κs = search needs
+
+enum-told-3 : tie.Need-enum-told-3
+enum-told-3 c = search needs
+
+tell-new-requires : tie.Need-tell-new-requires
+tell-new-requires c κs = search needs
+
+enum-known-call : tie.Need-enum-known-call
+enum-known-call c = search needs
+
+tell-open-requires : tie.Need-tell-open-requires
+tell-open-requires c κs = (placed (c .before .before .before .before .before) _ (c .before .before .before .call .given .1), search needs)
+
+enum-known-call-2 : tie.Need-enum-known-call-2
+enum-known-call-2 c = search needs
+
+tell-open-requires-2 : tie.Need-tell-open-requires-2
+tell-open-requires-2 c κs = (placed (c .before .before .before .before .before) _ (c .before .before .before .call2 .given .1), search needs)
+
+enum-told-4 : tie.Need-enum-told-4
+enum-told-4 c = search needs
+
+tell-report-requires : tie.Need-tell-report-requires
+tell-report-requires c κs = search needs
+
+enum-known-call-3 : tie.Need-enum-known-call-3
+enum-known-call-3 c = search needs
+
+tell-gate-requires : tie.Need-tell-gate-requires
+tell-gate-requires c κs = search needs
+
+enum-known-call-4 : tie.Need-enum-known-call-4
+enum-known-call-4 c = search needs
+
+tell-output-requires : tie.Need-tell-output-requires
+tell-output-requires c κs = search needs
+
+enum-known-call-5 : tie.Need-enum-known-call-5
+enum-known-call-5 c = search needs
+
+tell-entry-requires : tie.Need-tell-entry-requires
+tell-entry-requires c κs = search needs
+
+enum-known-call-6 : tie.Need-enum-known-call-6
+enum-known-call-6 c = search needs
+
+tell-limits-requires : tie.Need-tell-limits-requires
+tell-limits-requires c κs = search needs
+
+enum-known-call-7 : tie.Need-enum-known-call-7
+enum-known-call-7 c = search needs
+
+tell-store-requires : tie.Need-tell-store-requires
+tell-store-requires c κs = search needs
+
+enum-told-5 : tie.Need-enum-told-5
+enum-told-5 c = search needs
+
+tell-held-requires : tie.Need-tell-held-requires
+tell-held-requires c κs = search needs
+
+enum-told-6 : tie.Need-enum-told-6
+enum-told-6 c = search needs
+
+tell-show-requires : tie.Need-tell-show-requires
+tell-show-requires c κs = search needs
+
+enum-known-call-8 : tie.Need-enum-known-call-8
+enum-known-call-8 c = search needs
+
+tell-build-requires : tie.Need-tell-build-requires
+tell-build-requires c κs = (placed (c .before .before .before .before .before) _ (c .before .before .before .call8 .given .1), search needs)
+
+enum-known-call-9 : tie.Need-enum-known-call-9
+enum-known-call-9 c = search needs
+
+tell-distance-requires : tie.Need-tell-distance-requires
+tell-distance-requires c κs = (placed (c .before .before .before .before .before) _ (c .before .before .before .call9 .given .1), search needs)
+
+returns : tie.Need-returns
+returns c = answers-as (asked (c .before .before) _ (c .enum-told .given .1)) (answers _ (silent-said _) (λ p k. (k .is, refl)))
+
+returns-2 : tie.Need-returns-2
+returns-2 c = answers-as (asked (c .before .before .before .before) _ (c .before .before .enum-told2 .given .1)) (c .tell-unreadable .ensures)
+
+returns-3 : tie.Need-returns-3
+returns-3 c = answers-as (asked (c .before .before .before .before) _ (c .before .before .enum-told3 .given .1)) (c .tell-new .ensures)
+
+returns-4 : tie.Need-returns-4
+returns-4 c = answers-as (asked (c .before .before .before .before .before .before) _ (c .before .before .before .before .call .given .1)) (c .tell-open .ensures)
+
+returns-5 : tie.Need-returns-5
+returns-5 c = answers-as (asked (c .before .before .before .before .before .before) _ (c .before .before .before .before .call2 .given .1)) (c .tell-open2 .ensures)
+
+returns-6 : tie.Need-returns-6
+returns-6 c = answers-as (asked (c .before .before .before .before) _ (c .before .before .enum-told4 .given .1)) (c .tell-report .ensures)
+
+returns-7 : tie.Need-returns-7
+returns-7 c = answers-as (asked (c .before .before .before .before .before) _ (c .before .before .before .call3 .given .1)) (c .tell-gate .ensures)
+
+returns-8 : tie.Need-returns-8
+returns-8 c = answers-as (asked (c .before .before .before .before .before) _ (c .before .before .before .call4 .given .1)) (c .tell-output .ensures)
+
+returns-9 : tie.Need-returns-9
+returns-9 c = answers-as (asked (c .before .before .before .before .before) _ (c .before .before .before .call5 .given .1)) (c .tell-entry .ensures)
+
+returns-10 : tie.Need-returns-10
+returns-10 c = answers-as (asked (c .before .before .before .before .before) _ (c .before .before .before .call6 .given .1)) (c .tell-limits .ensures)
+
+returns-11 : tie.Need-returns-11
+returns-11 c = answers-as (asked (c .before .before .before .before .before .before) _ (c .before .before .before .before .call7 .given .1)) (c .tell-store .ensures)
+
+returns-12 : tie.Need-returns-12
+returns-12 c = answers-as (asked (c .before .before .before .before) _ (c .before .before .enum-told5 .given .1)) (c .tell-held .ensures)
+
+returns-13 : tie.Need-returns-13
+returns-13 c = answers-as (asked (c .before .before .before .before) _ (c .before .before .enum-told6 .given .1)) (c .tell-show .ensures)
+
+returns-14 : tie.Need-returns-14
+returns-14 c = answers-as (asked (c .before .before .before .before .before .before) _ (c .before .before .before .before .call8 .given .1)) (c .tell-build .ensures)
+
+returns-15 : tie.Need-returns-15
+returns-15 c = answers-as (asked (c .before .before .before .before .before .before) _ (c .before .before .before .before .call9 .given .1)) (c .tell-distance .ensures)
+
+pub answer-line-spec : {M : Type 1} → statement M
+answer-line-spec =
+    tie.close
+    (tie.spec
+    call-in-requires
+    enum-told
+    enum-told-2
+    tell-unreadable-requires
+    enum-told-3
+    tell-new-requires
+    enum-known-call
+    tell-open-requires
+    enum-known-call-2
+    tell-open-requires-2
+    enum-told-4
+    tell-report-requires
+    enum-known-call-3
+    tell-gate-requires
+    enum-known-call-4
+    tell-output-requires
+    enum-known-call-5
+    tell-entry-requires
+    enum-known-call-6
+    tell-limits-requires
+    enum-known-call-7
+    tell-store-requires
+    enum-told-5
+    tell-held-requires
+    enum-told-6
+    tell-show-requires
+    enum-known-call-8
+    tell-build-requires
+    enum-known-call-9
+    tell-distance-requires
+    returns
+    returns-2
+    returns-3
+    returns-4
+    returns-5
+    returns-6
+    returns-7
+    returns-8
+    returns-9
+    returns-10
+    returns-11
+    returns-12
+    returns-13
+    returns-14
+    returns-15)

@@ -1,0 +1,80 @@
+-- `talk::calls::build_in` meets its contract. Assumes nothing.
+use mathlib.Core.Path.{_≡_}
+use native.Mathlib.Omega.{arith}
+use lib.ListN.{length, take, drop, length-take}
+use Rattle.script.specs.Order.{bytesOf}
+use Rattle.talk.proofs.Spoken.{said}
+use Rattle.talk.proofs.Laying.{bytes-long}
+use Rattle.talk.proofs.Building.{builds-as, builds-first}
+use borrow.Author.Needs.{needs}
+use Rattle.talk.proofs.calls.build_in.Statement.{statement}
+use Rattle.talk.proofs.calls.build_in.Tie as tie
+
+-- how long the lent part is
+size : (m : tie.After-at-most) → length (take (m .at-most .result) (m .before .before .before .before .before .before .before .before .before .before .args .room .now)) ≡ m .at-most .result
+size m =
+    let s = m .before .before .before .before .before .before .before .before .before .before in
+    omega (arith, m .at-most .ensures, s .pre .2, length-take (m .at-most .result) (s .args .room .now))
+
+sub-put-unhex : tie.Need-sub-put-unhex
+sub-put-unhex c = search needs
+
+part-put-unhex-start : tie.Need-part-put-unhex-start
+part-put-unhex-start c = search needs
+
+part-put-unhex-end : tie.Need-part-put-unhex-end
+part-put-unhex-end c = search needs
+
+put-unhex-requires : tie.Need-put-unhex-requires
+put-unhex-requires c κs = search needs
+
+at-most-requires : tie.Need-at-most-requires
+at-most-requires c κs = search needs
+
+slice-reshare-prefix-build : tie.Need-slice-reshare-prefix-build
+slice-reshare-prefix-build c = (said (let s = c .before .before .before .before .before .before .before .before .before .before in omega (arith, c .before .before .before .put-unhex .ensures .next, bytes-long (s .args .line .now) (s .args .q .rows) (s .pre .0), s .pre .1, s .pre .0 .order, s .pre .0 .short)) (c .before .before .before .put-unhex .ensures)) .counts .0
+
+slice-aggregate-build : tie.Need-slice-aggregate-build
+slice-aggregate-build c = (said (let s = c .before .before .before .before .before .before .before .before .before .before .before in omega (arith, c .before .before .before .before .put-unhex .ensures .next, bytes-long (s .args .line .now) (s .args .q .rows) (s .pre .0), s .pre .1, s .pre .0 .order, s .pre .0 .short)) (c .before .before .before .before .put-unhex .ensures)) .counts .1
+
+slice-relend-prefix-build : tie.Need-slice-relend-prefix-build
+slice-relend-prefix-build c = search needs
+
+slice-aggregate-build-2 : tie.Need-slice-aggregate-build-2
+slice-aggregate-build-2 c = omega (arith, size (c .before .before))
+
+build-requires : tie.Need-build-requires
+build-requires c κs = search needs
+
+same-length : tie.Need-same-length
+same-length c = search needs
+
+same-length-2 : tie.Need-same-length-2
+same-length-2 c = search needs
+
+returns : tie.Need-returns
+returns c =
+    let m = c .before .before .before .before .before in
+    let a = c .before .before .before .before .before .before .before .before .before .before .before .before .before .before .before .args in
+    let b = c .before .before .build in
+    let e = (said (let s = c .before .before .before .before .before .before .before .before .before .before .before .before .before .before .before in omega (arith, c .before .before .before .before .before .before .before .before .put-unhex .ensures .next, bytes-long (s .args .line .now) (s .args .q .rows) (s .pre .0), s .pre .1, s .pre .0 .order, s .pre .0 .short)) (c .before .before .before .before .before .before .before .before .put-unhex .ensures)) .says in
+    builds-first (a .q .n) (bytesOf (a .line .now) (a .q .rows)) (a .q .d) (a .q .room) (m .at-most .result) (take (m .at-most .result) (a .room .now)) (drop (m .at-most .result) (a .room .now)) _ (b .result)
+    (m .at-most .ensures) (size m) (builds-as e (b .ensures))
+
+pub build-in-spec : {M : Type 1} → statement M
+build-in-spec =
+    tie.close
+    (tie.spec
+    sub-put-unhex
+    part-put-unhex-start
+    part-put-unhex-end
+    put-unhex-requires
+    at-most-requires
+    slice-reshare-prefix-build
+    slice-aggregate-build
+    slice-relend-prefix-build
+    slice-aggregate-build-2
+    build-requires
+    same-length
+    same-length-2
+    returns)

@@ -1,0 +1,37 @@
+-- `talk::calls::tell_distance` meets its contract. Assumes nothing.
+use mathlib.Core.Path.{ap, ap₂, _∙_}
+use mathlib.Core.List.{List}
+use Prim.Native.Nat.{ℕ}
+use Rattle.distance.specs.Query.{answerOf}
+use Rattle.talk.specs.Texts.{distanceText}
+use Rattle.talk.proofs.Telling.{answers}
+use borrow.Author.Needs.{needs}
+use Rattle.talk.proofs.calls.tell_distance.Statement.{statement}
+use Rattle.talk.proofs.calls.tell_distance.Tie as tie
+
+lay-two-requires : tie.Need-lay-two-requires
+lay-two-requires c κs = search needs
+
+distance-parts-requires : tie.Need-distance-parts-requires
+distance-parts-requires c κs = search needs
+
+say-distance-requires : tie.Need-say-distance-requires
+say-distance-requires c κs = search needs
+
+same-length : tie.Need-same-length
+same-length c = search needs
+
+returns : tie.Need-returns
+returns c =
+    let l = c .before .before .before .before .before .before .lay-two .ensures in
+    let q = c .before .before .before .before .before .before .before .before .before .before .before .before .args .q in
+    let x = c .before .before .distance-parts .ensures in
+    answers _ (c .say-distance .ensures) (λ p k. (
+      k .is,
+      ap distanceText (x ∙ ap₂ (λ (ms ds : List ℕ). answerOf (q .n) ms ds (q .target) (q .d)) (l .first) (l .second)),
+    ))
+
+pub tell-distance-spec : {M : Type 1} → statement M
+tell-distance-spec =
+    tie.close
+    (tie.spec lay-two-requires distance-parts-requires say-distance-requires same-length returns)

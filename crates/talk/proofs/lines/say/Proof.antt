@@ -1,0 +1,14 @@
+-- `talk::lines::say` meets its contract. Assumes nothing.
+use Rattle.talk.proofs.Spoken.{said}
+use borrow.Author.Needs.{needs}
+use Rattle.talk.proofs.lines.say.Statement.{statement}
+use Rattle.talk.proofs.lines.say.Tie as tie
+
+put-requires : tie.Need-put-requires
+put-requires c κs = search needs
+
+returns : tie.Need-returns
+returns c = said (search needs) (c .put .ensures)
+
+pub say-spec : {M : Type 1} → statement M
+say-spec = tie.close (tie.spec put-requires returns)

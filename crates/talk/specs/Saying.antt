@@ -1,0 +1,77 @@
+-- What the functions inside promise to one another: texts of what the structs hold, and where they stand.
+use mathlib.Core.Path.{_≡_}
+use mathlib.Core.Bool.{cond}
+use mathlib.Core.List.{List, _++_}
+use Prim.Native.Nat.{ℕ, _+_, _-_, _≤_, min}
+use lib.ListN.{length, getD, take, drop}
+use Rattle.io.specs.Counts.{Counts}
+use Rattle.circuit.specs.declared.Circuit.{Circuit}
+use Rattle.circuit.specs.declared.Writing.{Writing}
+use Rattle.circuit.specs.declared.Writing.the-variants.{Written, NotWritten}
+use Rattle.circuit.specs.declared.Refusal.the-variants.{NothingOpen}
+use Rattle.circuit.specs.Gate.{noWords, valueIn}
+use Rattle.circuit.specs.Stored.{stored}
+use Rattle.builder.specs.Call.{built, buildAnswer}
+use Rattle.bench.specs.declared.Bench.{Bench}
+use Rattle.bench.specs.declared.Report.{Report}
+use Rattle.bench.specs.declared.Reported.{Reported}
+use Rattle.bench.specs.declared.Reported.the-variants.{Given, NotGiven}
+use Rattle.bench.specs.Parts.{standing}
+use Rattle.script.specs.declared.Part.{Part}
+use Rattle.script.specs.Order.{bytesOf}
+use Rattle.listing.specs.Printed.{labelled, newLine, refusedText, countsText, linesIn, linesTo}
+use Rattle.talk.specs.Words.{andDepthName, heldName}
+use Rattle.talk.specs.Texts.{verdictText, hexLine, writtenText, groupText, valuesText}
+
+-- a text is the first `len` bytes of a room
+pub record Said (room : List ℕ) (len : ℕ) (text : List ℕ) : Type 0 where
+  pub counts : Counts len room
+  pub says : take len room ≡ text
+
+-- more than any stored form has
+abbrev pub storedMost : ℕ
+storedMost = 2048
+
+-- what was written first in a room, or why nothing was
+abbrev pub writtenIn : List ℕ → Writing → List ℕ → List ℕ
+writtenIn name (Written count) room = hexLine name count (take (min count storedMost) room)
+writtenIn name (NotWritten w) room = refusedText w
+
+-- the group of line i, as a bench holds it
+abbrev pub groupIn : Bench → ℕ → List ℕ
+groupIn b i =
+    groupText i (getD (b .depths) i 0) (getD (b .«and_depths») i 0) (valuesText (valueIn (getD (b .values) i noWords)) (b .n))
+
+-- all that a bench holds
+unfoldable pub linesHeldIn : Bench → List ℕ
+linesHeldIn b = labelled heldName (b .n + b .g) ++ linesTo (groupIn b) (b .n + b .g) ++ newLine
+
+-- the same where anything stands on it
+abbrev pub heldIn : Bench → List ℕ
+heldIn b = cond (standing (b .«is_open») (b .n) (b .m) (b .g)) (linesHeldIn b) (refusedText NothingOpen)
+
+-- a circuit with its report
+unfoldable pub shownWith : Circuit → Report → List ℕ
+shownWith c r =
+    countsText (c .n) (c .m) (c .g) (r .depth) ++ labelled andDepthName (r .«and_depth») ++ newLine ++ linesIn c ++ verdictText (r .verdict) ++ newLine
+
+-- the same where there is a report
+abbrev pub shownIn : Circuit → Reported → List ℕ
+shownIn c (Given r) = shownWith c r
+shownIn c (NotGiven w) = refusedText w
+
+-- the bytes of one part stand first in a room, and those of another after them
+pub record Laid (line room : List ℕ) (p q : Part) (mid end : ℕ) : Type 0 where
+  pub order : mid ≤ end
+  pub inside : end ≤ length room
+  pub counts : Counts mid room
+  pub first : take mid room ≡ bytesOf line p
+  pub second : take (end - mid) (drop mid room) ≡ bytesOf line q
+
+-- as many bytes as the words of one line can say
+abbrev pub hexMost : ℕ
+hexMost = 32768
+
+-- what was built for a room so long stands first in a room, or the refusal is told
+pub record BuildsFirst (n : ℕ) (ts : List ℕ) (D size : ℕ) (r : Writing) (room : List ℕ) : Type 0 where
+  pub said : (name : List ℕ) → writtenIn name r room ≡ writtenText name (buildAnswer n ts D size) (stored (built n ts D))

@@ -1,0 +1,135 @@
+-- The text of each answer, as the call language has it: each ends its line.
+use mathlib.Core.List.{List, [], _∷_, _++_}
+use Prim.Native.Nat.{ℕ, _+_, _*_, _/_, _^_, min}
+use lib.ListN.{length, getD, take}
+use Rattle.circuit.specs.declared.Answer.{Answer}
+use Rattle.circuit.specs.declared.Answer.the-variants.{Done, Refused}
+use Rattle.circuit.specs.declared.Tally.{Tally}
+use Rattle.circuit.specs.declared.Writing.{Writing}
+use Rattle.circuit.specs.declared.Writing.the-variants.{Written, NotWritten}
+use Rattle.circuit.specs.declared.Refusal.the-variants.{NothingOpen}
+use Rattle.circuit.specs.Lines.{Listing, gateAt, upto, values, depths, andDepths, depthOf, andDepthOf}
+use Rattle.distance.specs.declared.Answer.{Answer as Distance}
+use Rattle.distance.specs.declared.Answer.the-variants.{Gates, Never, Refused as NotAsked}
+use Rattle.distance.specs.Query.{refusalNo as distanceNo}
+use Rattle.bench.specs.declared.Verdict.{Verdict}
+use Rattle.bench.specs.declared.Verdict.the-variants.{Wrong, OverGates, OverDepth, OverAndDepth, Pass}
+use Rattle.bench.specs.declared.Report.{Report}
+use Rattle.bench.specs.declared.Reported.{Reported}
+use Rattle.bench.specs.declared.Reported.the-variants.{Given, NotGiven}
+use Rattle.bench.specs.declared.Edit.{Edit}
+use Rattle.bench.specs.State.{State, Present, nothing, present, verdictOf}
+use Rattle.bench.specs.Held.{packed}
+use Rattle.text.specs.Numbers.{hexText, numbersText}
+use Rattle.listing.specs.Printed.{labelled, newLine, refusedName, refusedText, countsText, linesText, linesTo}
+use Rattle.talk.specs.Words.{openedText, reportName, xorName, nonlinearName, notName, depthName, andDepthName, passName, wrongName, overGatesName, overDepthName, overAndDepthName, reworkedName, heldName, distanceName, noneName}
+
+-- VERDICT
+abbrev pub verdictText : Verdict → List ℕ
+verdictText (Wrong place) = labelled wrongName (place .input) ++ labelled (32 ∷ []) (place .output)
+verdictText OverGates = overGatesName
+verdictText OverDepth = overDepthName
+verdictText OverAndDepth = overAndDepthName
+verdictText Pass = passName
+
+-- the counts of a report: `report gates G xor X nonlinear N not T`
+abbrev pub tallyText : ℕ → Tally → List ℕ
+tallyText g t = labelled reportName g ++ labelled xorName (t .xors) ++ labelled nonlinearName (t .nonlinear) ++ labelled notName (t .nots)
+
+-- `report gates G xor X nonlinear N not T depth D anddepth A VERDICT`
+unfoldable pub reportText : Report → List ℕ
+reportText r =
+    tallyText (r .gates) (r .counts) ++ labelled depthName (r .depth) ++ labelled andDepthName (r .«and_depth») ++ (32 ∷ [])
+    ++ verdictText (r .verdict) ++ newLine
+
+-- a report, or `refused N`
+abbrev pub reportedText : Reported → List ℕ
+reportedText (Given r) = reportText r
+reportedText (NotGiven w) = refusedText w
+
+-- a text where a call is accepted, or `refused N`
+abbrev pub acceptedText : Answer → List ℕ → List ℕ
+acceptedText Done s = s
+acceptedText (Refused w) s = refusedText w
+
+-- `opened`
+abbrev pub openText : Answer → List ℕ
+openText a = acceptedText a openedText
+
+-- `reworked COUNT LINE LINE ..`
+unfoldable pub reworkedText : ℕ → List ℕ → List ℕ
+reworkedText count lines = labelled reworkedName count ++ numbersText (take count lines) ++ newLine
+
+-- what an edit answers, or `refused N`
+abbrev pub editText : Edit → List ℕ
+editText e = acceptedText (e .answer) (reworkedText (e .count) (e .lines))
+
+-- `stored COUNT HEX` and `built COUNT HEX`, by the first word
+unfoldable pub hexLine : List ℕ → ℕ → List ℕ → List ℕ
+hexLine name count bytes = labelled name count ++ (32 ∷ []) ++ hexText bytes ++ newLine
+
+-- how many bytes were written, and which, or `refused N`
+abbrev pub writtenText : List ℕ → Writing → List ℕ → List ℕ
+writtenText name (Written count) bytes = hexLine name count bytes
+writtenText name (NotWritten w) bytes = refusedText w
+
+-- `distance X`, `distance none` or `refused N`
+abbrev pub distanceText : Distance → List ℕ
+distanceText (Gates x) = labelled distanceName x ++ newLine
+distanceText Never = distanceName ++ noneName ++ newLine
+distanceText (NotAsked w) = labelled refusedName (distanceNo w) ++ newLine
+
+-- ---- held
+
+-- into how many bytes the values on 2^n inputs are packed: one where there are fewer than 8
+abbrev pub valueBytes : ℕ → ℕ
+valueBytes n = (2 ^ n + 7) / 8
+
+-- how many values a byte has
+abbrev pub valueBits : ℕ → ℕ
+valueBits n = min 8 (2 ^ n)
+
+-- byte j of values that are given for each input: those on inputs 8 j, 8 j + 1, .., low bit first
+abbrev pub byteOf : (ℕ → ℕ) → ℕ → ℕ → ℕ
+byteOf value n j = packed (λ (b : ℕ). value (8 * j + b)) (valueBits n)
+
+-- VALUES: a line's value on inputs 0, 1, 2, .., packed into bytes, in hex
+unfoldable pub valuesText : (ℕ → ℕ) → ℕ → List ℕ
+valuesText value n = hexText (upto (byteOf value n) (valueBytes n))
+
+-- ` LINE:DEPTH:ANDDEPTH:VALUES`
+unfoldable pub groupText : ℕ → ℕ → ℕ → List ℕ → List ℕ
+groupText line depth ands hex = labelled (32 ∷ []) line ++ labelled (58 ∷ []) depth ++ labelled (58 ∷ []) ands ++ (58 ∷ []) ++ hex
+
+-- the value of line i of a circuit on input value x
+abbrev pub lineOn : Listing → ℕ → ℕ → ℕ
+lineOn c i x = getD (values x (c .inputs) (gateAt c) (length (c .gates))) i 0
+
+-- the group of line i
+abbrev pub lineGroup : Listing → ℕ → List ℕ
+lineGroup c i =
+    let g = length (c .gates) in
+    groupText i (getD (depths (c .inputs) (gateAt c) g) i 0) (getD (andDepths (c .inputs) (gateAt c) g) i 0) (valuesText (lineOn c i) (c .inputs))
+
+-- `held COUNT LINE:DEPTH:ANDDEPTH:VALUES ..`, a group for each line
+abbrev pub linesHeld : Listing → List ℕ
+linesHeld c = let count = c .inputs + length (c .gates) in labelled heldName count ++ linesTo (lineGroup c) count ++ newLine
+
+-- what `held` answers
+abbrev pub heldText : Present → List ℕ
+heldText nothing = refusedText NothingOpen
+heldText (present s) = linesHeld (s .circuit)
+
+-- ---- show
+
+-- the counts and both depths, the lines of gates and outputs, the verdict
+abbrev pub stateShown : State → List ℕ
+stateShown s =
+    let c = s .circuit in
+    countsText (c .inputs) (length (c .outs)) (length (c .gates)) (depthOf c) ++ labelled andDepthName (andDepthOf c) ++ newLine ++ linesText c
+    ++ verdictText (verdictOf s) ++ newLine
+
+-- what `show` answers
+abbrev pub showText : Present → List ℕ
+showText nothing = refusedText NothingOpen
+showText (present s) = stateShown s

@@ -1,0 +1,261 @@
+// A function for each call: the call on the bench by value, and its answer said.
+ghost use mathlib.Core.Path.{_≡_};
+ghost use Prim.Native.Nat.{_-_, _≤_};
+ghost use lib.ListN.{length, take, drop};
+ghost use Rattle.distance.specs.Query.{answerOf};
+ghost use Rattle.bench.specs.Calls.{OpenPromise};
+ghost use Rattle.bench.specs.Parts.{targetOf, limits};
+ghost use Rattle.script.specs.Reading.{askOpen};
+ghost use Rattle.script.specs.Order.{bytesOf, unreadable, askNew, askReport, askGate, askOutput, askEntry, askLimits, askStore, askHeld, askShow, askBuild, askDistance};
+ghost use Rattle.script.specs.Placed.{HexPart, HexParts};
+ghost use Rattle.talk.specs.Texts.{editText, openText};
+ghost use Rattle.talk.specs.Talk.{Answers};
+ghost use Rattle.talk.specs.Saying.{Said, Laid, BuildsFirst, storedMost, hexMost};
+use crate::OUT;
+use crate::Told;
+use crate::held::say_held;
+use crate::lines::say;
+use crate::lines::say_distance;
+use crate::lines::say_edit;
+use crate::lines::say_opened;
+use crate::lines::say_reported;
+use crate::lines::say_written;
+use crate::pieces::at_most;
+use crate::show::say_show;
+use bench::Bench;
+use bench::Edited;
+use bench::Opened;
+use bench::edits::change_entry;
+use bench::edits::point_output;
+use bench::edits::replace_gate;
+use bench::edits::set_limits;
+use bench::opening::empty;
+use bench::opening::open_matrix;
+use bench::opening::open_table;
+use bench::reporting::report;
+use bench::storing::circuit_of;
+use bench::storing::store;
+use builder::build;
+use circuit::Writing;
+use script::BuildCall;
+use script::DistanceCall;
+use script::EntryEdit;
+use script::GateEdit;
+use script::LimitsEdit;
+use script::Opening;
+use script::OutputEdit;
+use script::Part;
+
+// A line that is no call.
+pub(crate) fn tell_unreadable(b: Bench, out: &mut [u8; OUT]) -> Told
+    ensures { λ r. ⌜ Answers b unreadable (now (out .exit)) r ⌝ }
+{
+    let len = say(out, b"unreadable\n");
+    Told { bench: b, len }
+}
+
+// `new`: a bench with nothing open, whatever stood on it.
+pub(crate) fn tell_new(b: Bench, out: &mut [u8; OUT]) -> Told
+    ensures { λ r. ⌜ Answers b askNew (now (out .exit)) r ⌝ }
+{
+    let len = say(out, b"new\n");
+    let bench = empty();
+    Told { bench, len }
+}
+
+// Where the first of two parts of a room ends, and where the second does.
+struct Ends {
+    mid: usize,
+    end: usize,
+}
+
+// The bytes that two parts of a line say, one after the other from the start of the room.
+fn lay_two(line: &[u8], p: Part, q: Part, room: &mut [u8]) -> Ends
+    requires { ⌜ HexParts (now line) p q × (hexMost ≤ length (now room)) ⌝ }
+    ensures { λ r. ⌜ Laid (now (line .entry)) (now (room .exit)) p q (r .mid) (r .end) ⌝ }
+{
+    let from = p.from;
+    let to = p.to;
+    let mid = text::put_unhex(room, 0, &line[from..to]);
+    let next = q.from;
+    let last = q.to;
+    let end = text::put_unhex(room, mid, &line[next..last]);
+    Ends { mid, end }
+}
+
+// An open's answer, with the bench after it.
+fn told_open(done: Opened, out: &mut [u8; OUT]) -> Told
+    ensures { λ r. ⌜ (r .bench ≡ done .bench) × Said (now (out .exit)) (r .len) (openText (done .answer)) ⌝ }
+{
+    let answer = done.answer;
+    let len = say_opened(out, answer);
+    let bench = done.bench;
+    Told { bench, len }
+}
+
+// An open of what stands in two parts of a room, with a target of either kind.
+fn open_parts(b: Bench, matrix: bool, room: &[u8], ends: Ends, o: Opening) -> Opened
+    requires { ⌜ (ends .mid ≤ ends .end) × (ends .end ≤ length (now room)) ⌝ }
+    ensures { λ r. ⌜ OpenPromise b (take (ends .mid) (now (room .entry))) (targetOf matrix (take (ends .end - ends .mid) (drop (ends .mid) (now (room .entry))))) (limits (o .gates) (o .depth) (o .ands)) (r .answer) (r .bench) ⌝ }
+{
+    let mid = ends.mid;
+    let end = ends.end;
+    if matrix {
+        open_matrix(b, &room[..mid], &room[mid..end], o.gates, o.depth, o.ands)
+    } else {
+        open_table(b, &room[..mid], &room[mid..end], o.gates, o.depth, o.ands)
+    }
+}
+
+// `open HEX matrix HEX G D A` or `open HEX table HEX G D A`.
+pub(crate) fn tell_open(
+    b: Bench,
+    line: &[u8],
+    matrix: bool,
+    o: Opening,
+    room: &mut [u8],
+    out: &mut [u8; OUT],
+) -> Told
+    requires { ⌜ HexParts (now line) (o .bytes) (o .target) × (hexMost ≤ length (now room)) ⌝ }
+    ensures { λ r. ⌜ Answers b (askOpen matrix (bytesOf (now (line .entry)) (o .bytes)) (bytesOf (now (line .entry)) (o .target)) (o .gates) (o .depth) (o .ands)) (now (out .exit)) r ⌝ }
+{
+    let bytes = o.bytes;
+    let target = o.target;
+    let ends = lay_two(line, bytes, target, room);
+    let done = open_parts(b, matrix, room, ends, o);
+    told_open(done, out)
+}
+
+// `report`.
+pub(crate) fn tell_report(b: Bench, out: &mut [u8; OUT]) -> Told
+    ensures { λ r. ⌜ Answers b askReport (now (out .exit)) r ⌝ }
+{
+    let reported = report(b);
+    let len = say_reported(out, reported);
+    Told { bench: b, len }
+}
+
+// An edit's answer, with the bench after it.
+fn told_edit(done: Edited, out: &mut [u8; OUT]) -> Told
+    ensures { λ r. ⌜ (r .bench ≡ done .bench) × Said (now (out .exit)) (r .len) (editText (done .edit)) ⌝ }
+{
+    let edit = done.edit;
+    let len = say_edit(out, edit);
+    let bench = done.bench;
+    Told { bench, len }
+}
+
+// `gate K KIND A B`.
+pub(crate) fn tell_gate(b: Bench, e: GateEdit, out: &mut [u8; OUT]) -> Told
+    ensures { λ r. ⌜ Answers b (askGate (e .k) (e .kind) (e .a) (e .b)) (now (out .exit)) r ⌝ }
+{
+    told_edit(replace_gate(b, e.k, e.kind, e.a, e.b), out)
+}
+
+// `output J LINE`.
+pub(crate) fn tell_output(b: Bench, e: OutputEdit, out: &mut [u8; OUT]) -> Told
+    ensures { λ r. ⌜ Answers b (askOutput (e .j) (e .line)) (now (out .exit)) r ⌝ }
+{
+    told_edit(point_output(b, e.j, e.line), out)
+}
+
+// `entry I VALUE`.
+pub(crate) fn tell_entry(b: Bench, e: EntryEdit, out: &mut [u8; OUT]) -> Told
+    ensures { λ r. ⌜ Answers b (askEntry (e .i) (e .value)) (now (out .exit)) r ⌝ }
+{
+    told_edit(change_entry(b, e.i, e.value), out)
+}
+
+// `limits G D A`.
+pub(crate) fn tell_limits(b: Bench, e: LimitsEdit, out: &mut [u8; OUT]) -> Told
+    ensures { λ r. ⌜ Answers b (askLimits (e .gates) (e .depth) (e .ands)) (now (out .exit)) r ⌝ }
+{
+    told_edit(set_limits(b, e.gates, e.depth, e.ands), out)
+}
+
+// `store ROOM`: a longer room than any stored form needs is lent no longer than that.
+pub(crate) fn tell_store(b: Bench, size: usize, room: &mut [u8], out: &mut [u8; OUT]) -> Told
+    requires { ⌜ storedMost ≤ length (now room) ⌝ }
+    ensures { λ r. ⌜ Answers b (askStore size) (now (out .exit)) r ⌝ }
+{
+    let lent = at_most(size, 2048);
+    let writing = store(b, &mut room[..lent]);
+    let len = say_written(out, b"stored ", writing, room);
+    Told { bench: b, len }
+}
+
+// The rows are laid in one room, and built into the other: a longer one than any stored form needs is lent no longer than that.
+fn build_in(line: &[u8], q: BuildCall, rows: &mut [u8], room: &mut [u8]) -> Writing
+    requires { ⌜ HexPart (now line) (q .rows) × (hexMost ≤ length (now rows)) × (storedMost ≤ length (now room)) ⌝ }
+    ensures { λ r. ⌜ BuildsFirst (q .n) (bytesOf (now (line .entry)) (q .rows)) (q .d) (q .room) r (now (room .exit)) ⌝ }
+{
+    let part = q.rows;
+    let from = part.from;
+    let to = part.to;
+    let end = text::put_unhex(rows, 0, &line[from..to]);
+    let lent = at_most(q.room, 2048);
+    build(q.n, &rows[..end], q.d, &mut room[..lent])
+}
+
+// `build N ROWSHEX D ROOM`. The answer's room holds the rows until there is an answer.
+pub(crate) fn tell_build(
+    b: Bench,
+    line: &[u8],
+    q: BuildCall,
+    room: &mut [u8],
+    out: &mut [u8; OUT],
+) -> Told
+    requires { ⌜ HexPart (now line) (q .rows) × (storedMost ≤ length (now room)) ⌝ }
+    ensures { λ r. ⌜ Answers b (askBuild (q .n) (bytesOf (now (line .entry)) (q .rows)) (q .d) (q .room)) (now (out .exit)) r ⌝ }
+{
+    let writing = build_in(line, q, out, room);
+    let len = say_written(out, b"built ", writing, room);
+    Told { bench: b, len }
+}
+
+// `held`.
+pub(crate) fn tell_held(b: Bench, out: &mut [u8; OUT]) -> Told
+    ensures { λ r. ⌜ Answers b askHeld (now (out .exit)) r ⌝ }
+{
+    let len = say_held(out, b);
+    Told { bench: b, len }
+}
+
+// `show`: lines and verdict of one and the same bench.
+pub(crate) fn tell_show(b: Bench, out: &mut [u8; OUT]) -> Told
+    ensures { λ r. ⌜ Answers b askShow (now (out .exit)) r ⌝ }
+{
+    let circuit = circuit_of(b);
+    let reported = report(b);
+    let len = say_show(out, circuit, reported);
+    Told { bench: b, len }
+}
+
+// The distance over masks and depths that stand in two parts of a room.
+fn distance_parts(n: usize, room: &[u8], ends: Ends, target: usize, d: usize) -> distance::Answer
+    requires { ⌜ (ends .mid ≤ ends .end) × (ends .end ≤ length (now room)) ⌝ }
+    ensures { λ r. ⌜ r ≡ answerOf n (take (ends .mid) (now (room .entry))) (take (ends .end - ends .mid) (drop (ends .mid) (now (room .entry)))) target d ⌝ }
+{
+    let mid = ends.mid;
+    let end = ends.end;
+    distance::distance(n, &room[..mid], &room[mid..end], target, d)
+}
+
+// `distance N MASKSHEX DEPTHSHEX T D`.
+pub(crate) fn tell_distance(
+    b: Bench,
+    line: &[u8],
+    q: DistanceCall,
+    room: &mut [u8],
+    out: &mut [u8; OUT],
+) -> Told
+    requires { ⌜ HexParts (now line) (q .masks) (q .depths) × (hexMost ≤ length (now room)) ⌝ }
+    ensures { λ r. ⌜ Answers b (askDistance (q .n) (bytesOf (now (line .entry)) (q .masks)) (bytesOf (now (line .entry)) (q .depths)) (q .target) (q .d)) (now (out .exit)) r ⌝ }
+{
+    let masks = q.masks;
+    let depths = q.depths;
+    let ends = lay_two(line, masks, depths, room);
+    let answer = distance_parts(q.n, room, ends, q.target, q.d);
+    let len = say_distance(out, answer);
+    Told { bench: b, len }
+}

@@ -1,0 +1,47 @@
+// A line of the call language on a bench: the bench after it, and the answer's bytes first in a lent room.
+ghost use Rattle.script.specs.Reading.{orderIn};
+ghost use Rattle.talk.specs.Talk.{Answers};
+use bench::Bench;
+use script::Call;
+use script::call_in;
+
+mod pieces; // pieces.rt: numbers with their labels, and verdicts
+mod lines; // lines.rt: the answers of one line
+mod values; // values.rt: a line's values as bytes
+mod held; // held.rt: what is held for each line
+mod show; // show.rt: the circuit on the screen
+mod calls; // calls.rt: a function for each call
+
+// The bench after a line, and how many bytes of the room are the answer.
+pub struct Told {
+    pub bench: Bench,
+    pub len: usize,
+}
+
+// The room that an answer is put in: longer than any answer, the longest being `held` of 256 lines.
+pub const OUT: usize = 32768;
+
+// The answer to a line of the call language: the bench after it, and the answer's bytes first in `out`. The room holds what
+// the line's words say in hexadecimal digits, and what is stored or built.
+pub fn answer_line(b: Bench, line: &[u8], room: &mut [u8; OUT], out: &mut [u8; OUT]) -> Told
+    ensures { λ r. ⌜ Answers b (orderIn (now (line .entry))) (now (out .exit)) r ⌝ }
+{
+    let call = call_in(line);
+    match call {
+        Call::Silent => Told { bench: b, len: 0 },
+        Call::Unreadable => calls::tell_unreadable(b, out),
+        Call::New => calls::tell_new(b, out),
+        Call::OpenMatrix(o) => calls::tell_open(b, line, true, o, room, out),
+        Call::OpenTable(o) => calls::tell_open(b, line, false, o, room, out),
+        Call::Report => calls::tell_report(b, out),
+        Call::Gate(e) => calls::tell_gate(b, e, out),
+        Call::Output(e) => calls::tell_output(b, e, out),
+        Call::Entry(e) => calls::tell_entry(b, e, out),
+        Call::Limits(e) => calls::tell_limits(b, e, out),
+        Call::Store(size) => calls::tell_store(b, size, room, out),
+        Call::Held => calls::tell_held(b, out),
+        Call::Show => calls::tell_show(b, out),
+        Call::Build(q) => calls::tell_build(b, line, q, room, out),
+        Call::Distance(q) => calls::tell_distance(b, line, q, room, out),
+    }
+}

@@ -1,0 +1,149 @@
+// The answers of one line: each is put first in the room.
+ghost use Prim.Native.Nat.{_≤_, min};
+ghost use lib.ListN.{length, take};
+ghost use mathlib.Core.List.{_++_};
+ghost use Rattle.text.specs.Putting.{Put};
+ghost use Rattle.listing.specs.Printed.{labelled, newLine, refusedText};
+ghost use Rattle.talk.specs.Texts.{tallyText, reportText, reportedText, openText, reworkedText, editText, hexLine, distanceText};
+ghost use Rattle.talk.specs.Saying.{Said, storedMost, writtenIn};
+use crate::OUT;
+use crate::pieces::at_most;
+use crate::pieces::put_labelled;
+use crate::pieces::put_verdict;
+use bench::Edit;
+use bench::Report;
+use bench::Reported;
+use circuit::Answer;
+use circuit::Refusal;
+use circuit::Tally;
+use circuit::Writing;
+use circuit::wide;
+
+// A fixed line.
+pub(crate) fn say(out: &mut [u8; OUT], line: &[u8]) -> usize
+    requires { ⌜ length (now line) ≤ 64 ⌝ }
+    ensures { λ r. ⌜ Said (now (out .exit)) r (now (line .entry)) ⌝ }
+{
+    text::put(out, 0, line)
+}
+
+// `refused N`.
+pub(crate) fn say_refused(out: &mut [u8; OUT], why: Refusal) -> usize
+    ensures { λ r. ⌜ Said (now (out .exit)) r (refusedText why) ⌝ }
+{
+    listing::put_refused(out, why)
+}
+
+// The counts of a report.
+fn put_tally(room: &mut [u8], gates: usize, counts: Tally) -> usize
+    requires { ⌜ 128 ≤ length (now room) ⌝ }
+    ensures { λ r. ⌜ Put (now (room .entry)) 0 (tallyText gates counts) (now (room .exit)) r ⌝ }
+    ensures { λ r. ⌜ r ≤ 128 ⌝ }
+{
+    let end = put_labelled(room, 0, b"report gates ", gates);
+    let xors = put_labelled(room, end, b" xor ", counts.xors);
+    let nonlinear = put_labelled(room, xors, b" nonlinear ", counts.nonlinear);
+    put_labelled(room, nonlinear, b" not ", counts.nots)
+}
+
+// The report.
+pub(crate) fn say_report(out: &mut [u8; OUT], r: Report) -> usize
+    ensures { λ n. ⌜ Said (now (out .exit)) n (reportText r) ⌝ }
+{
+    let counts = r.counts;
+    let verdict = r.verdict;
+    let counted = put_tally(out, r.gates, counts);
+    let depth = put_labelled(out, counted, b" depth ", wide(r.depth));
+    let ands = put_labelled(out, depth, b" anddepth ", wide(r.and_depth));
+    let space = text::put(out, ands, b" ");
+    let judged = put_verdict(out, space, verdict);
+    text::put(out, judged, b"\n")
+}
+
+// What a report answers.
+pub(crate) fn say_reported(out: &mut [u8; OUT], r: Reported) -> usize
+    ensures { λ n. ⌜ Said (now (out .exit)) n (reportedText r) ⌝ }
+{
+    match r {
+        Reported::Given(report) => say_report(out, report),
+        Reported::NotGiven(why) => say_refused(out, why),
+    }
+}
+
+// What an open answers.
+pub(crate) fn say_opened(out: &mut [u8; OUT], answer: Answer) -> usize
+    ensures { λ r. ⌜ Said (now (out .exit)) r (openText answer) ⌝ }
+{
+    match answer {
+        Answer::Done => say(out, b"opened\n"),
+        Answer::Refused(why) => say_refused(out, why),
+    }
+}
+
+// `reworked COUNT LINE LINE ..`. No edit reworks more than 256 lines; the test keeps to the array on a bench that no calls yield.
+fn say_reworked(out: &mut [u8; OUT], count: usize, lines: [u8; 256]) -> usize
+    ensures { λ r. ⌜ Said (now (out .exit)) r (reworkedText count lines) ⌝ }
+{
+    let shown = at_most(count, 256);
+    let counted = put_labelled(out, 0, b"reworked ", count);
+    let listed = text::put_numbers(out, counted, &lines[..shown]);
+    text::put(out, listed, b"\n")
+}
+
+// What an edit answers.
+pub(crate) fn say_edit(out: &mut [u8; OUT], e: Edit) -> usize
+    ensures { λ r. ⌜ Said (now (out .exit)) r (editText e) ⌝ }
+{
+    let answer = e.answer;
+    let lines = e.lines;
+    match answer {
+        Answer::Done => say_reworked(out, e.count, lines),
+        Answer::Refused(why) => say_refused(out, why),
+    }
+}
+
+// `stored COUNT HEX` or `built COUNT HEX`, of what stands first in a room. No stored form has more than 1,341 bytes; the
+// test keeps to the answer's room on a bench that no calls yield.
+fn say_bytes(out: &mut [u8; OUT], name: &[u8], count: usize, room: &[u8]) -> usize
+    requires { ⌜ (length (now name) ≤ 64) × (storedMost ≤ length (now room)) ⌝ }
+    ensures { λ r. ⌜ Said (now (out .exit)) r (hexLine (now (name .entry)) count (take (min count storedMost) (now (room .entry)))) ⌝ }
+{
+    let shown = at_most(count, 2048);
+    let counted = put_labelled(out, 0, name, count);
+    let start = text::put(out, counted, b" ");
+    let end = text::put_hex(out, start, &room[..shown]);
+    text::put(out, end, b"\n")
+}
+
+// What was written first in a room, or why nothing was.
+pub(crate) fn say_written(out: &mut [u8; OUT], name: &[u8], writing: Writing, room: &[u8]) -> usize
+    requires { ⌜ (length (now name) ≤ 64) × (storedMost ≤ length (now room)) ⌝ }
+    ensures { λ r. ⌜ Said (now (out .exit)) r (writtenIn (now (name .entry)) writing (now (room .entry))) ⌝ }
+{
+    match writing {
+        Writing::Written(count) => say_bytes(out, name, count, room),
+        Writing::NotWritten(why) => say_refused(out, why),
+    }
+}
+
+// A name and a number.
+fn say_number(out: &mut [u8; OUT], name: &[u8], x: usize) -> usize
+    requires { ⌜ length (now name) ≤ 64 ⌝ }
+    ensures { λ r. ⌜ Said (now (out .exit)) r (labelled (now (name .entry)) x ++ newLine) ⌝ }
+{
+    let end = put_labelled(out, 0, name, x);
+    text::put(out, end, b"\n")
+}
+
+// What a distance query answers.
+pub(crate) fn say_distance(out: &mut [u8; OUT], answer: distance::Answer) -> usize
+    ensures { λ r. ⌜ Said (now (out .exit)) r (distanceText answer) ⌝ }
+{
+    match answer {
+        distance::Answer::Gates(gates) => say_number(out, b"distance ", wide(gates)),
+        distance::Answer::Never => say(out, b"distance none\n"),
+        distance::Answer::Refused(why) => {
+            say_number(out, b"refused ", wide(distance::refusal_no(why)))
+        }
+    }
+}
