@@ -1,0 +1,14 @@
+#!/usr/bin/env bash
+# Under valgrind the programs read and write nothing that is not theirs: the README's session, each kind of bad line, and matrices.
+set -u
+watch() { valgrind -q --error-exitcode=9 "$@" >/dev/null; }
+session=$(sed -n '/^```desk$/,/^```$/p' README.md | grep '^> ' | cut -c3-)
+{
+    printf '%s\nheld\nnew\nreport\nshow\ngate 1 2\n\n# remark\nopen 5348 table - 0 0 0\n' "$session"
+    printf 'distance 4 0102040807 0000000002 15 3\nentry 18446744073709551615 0\nentry 18446744073709551616 0\n'
+    head -c 70000 /dev/zero | tr '\0' 'x'
+    printf '\nreport'
+} | watch target/bin/desk || exit 1
+for input in '\003\003\002\003\007\006' '\010\001\002\377' '\010\004\003\377\176\201\132' '\001' ''; do
+    printf "$input" | watch target/bin/build || exit 1
+done
