@@ -9,7 +9,7 @@ pub mod edits; // edits.rt: replacing a gate, pointing an output, changing an en
 pub mod reporting; // reporting.rt: the counts and the verdict
 pub mod storing; // storing.rt: the circuit's stored bytes into a lent room
 mod examine; // examine.rt: what each line has, afresh or for the readers of one gate
-mod target; // target.rt: the target's rules, and what it wants in words
+mod targets; // targets.rt: the target's rules, and what it wants in words
 
 // What stands on the bench. Gate k is `kinds[k]`, `left[k]`, `right[k]`; a line's entry in `depths`, `and_depths` and
 // `values` has the line's number; `wanted` has for each output the values that the target wants. Zeros past the last.

@@ -8,7 +8,6 @@ use borrow.Author.Tests.{ltb-false}
 use lib.Dec.{eqb}
 use lib.ListN.{length, getD, take, replicate, length-append, length-map, length-replicate, replicate-append-replicate}
 use lib.Seq.{take-at}
-use Rattle.circuit.specs.declared.Circuit.{Circuit}
 use Rattle.circuit.specs.Lines as circuits
 use Rattle.circuit.specs.Stored.{held}
 use Rattle.distance.specs.Base.{Line, line, lines, Gate, made, run, Small, Shallow, inputs, weight}
@@ -16,10 +15,10 @@ use Rattle.distance.specs.Distance.{gates, distance}
 use Rattle.distance.proofs.Fewest.{distance-fewest, fewest-distance}
 use Rattle.distance.proofs.Weight.{distance-inputs, small-inputs, no-weight, weight-le}
 use Rattle.builder.specs.declared.grow.State.{State}
-use Rattle.builder.specs.Rule.{Row, row, reach, count, away, distances, sum, lowest, taken, nextGate, greedy, xorGate, circuitOf}
-use Rattle.builder.specs.Call.{within, built, badRow, tooHeavy, refusal}
-use Rattle.builder.specs.Kept.{Sound, Sounds, Alive, rowsOf, padded, base, Poised, Stands, Grown, Fit, Begun}
-use Rattle.builder.proofs.Lists.{padded-none, map-at}
+use Rattle.builder.specs.Rule.{Row, row, reach, count, distances, sum, lowest, taken, nextGate, greedy, xorGate, circuitOf}
+use Rattle.builder.specs.Call.{within, built, tooHeavy}
+use Rattle.builder.specs.Kept.{Sounds, Alive, rowsOf, padded, base, Poised, Stands, Grown, Fit, Begun}
+use Rattle.builder.proofs.Lists.{padded-none}
 use Rattle.builder.proofs.Refusals.{Accepted, fit, any-none}
 
 -- ---- one limit for all rows

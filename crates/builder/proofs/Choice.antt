@@ -1,19 +1,19 @@
 -- Laws of the choice of a gate: the ways that the loops over pairs and rows go.
-use mathlib.Core.Bool.{Bool, true, false, cond, _&&_, _||_}
-use mathlib.Core.List.{List, [], _∷_, _++_, map}
-use mathlib.Core.Path.{_≡_, refl, sym, ap, ap₂, _∙_, subst}
-use Prim.Native.Nat.{ℕ, zero, suc, _+_, _-_, _*_, _^_, _≤_, _<_, max}
+use mathlib.Core.Bool.{Bool, true, false, cond}
+use mathlib.Core.List.{List, [], _∷_}
+use mathlib.Core.Path.{_≡_, refl, sym, ap, ap₂, _∙_}
+use Prim.Native.Nat.{ℕ, zero, suc, _+_, _-_, _*_, _≤_, _<_, max}
 use native.Mathlib.Nat.{add-zero}
 use native.Mathlib.Numerals.{add-one}
 use native.Mathlib.Omega.{arith}
 use borrow.Author.Tests.{le-leb, lt-leb, le-ltb, eq-eqb, ne-eqb}
 use lib.Bits.{bitXor}
-use lib.Dec.{leb, ltb, eqb}
+use lib.Dec.{leb, eqb}
 use lib.ListN.{length, getD, drop, drop-of-length-le}
-use Rattle.distance.specs.Base.{Line, line, lines, Gate, gate, made}
-use Rattle.builder.specs.Rule.{Row, row, away, distances, sum, squares, makes, firstIn, firstPair, immediate, Best, best, start, better, scored, consider, alongLine, allPairs, bestPair, nextGate}
-use Rattle.builder.specs.Kept.{rowsOf, Chosen}
-use Rattle.builder.proofs.Lists.{made-at, drop-at-next, rows-at, rows-length, map-at}
+use Rattle.distance.specs.Base.{Line, lines, Gate, gate, made}
+use Rattle.builder.specs.Rule.{Row, row, away, distances, sum, squares, makes, firstIn, firstPair, immediate, Best, best, better, scored, consider, alongLine, allPairs, bestPair, nextGate}
+use Rattle.builder.specs.Kept.{rowsOf}
+use Rattle.builder.proofs.Lists.{made-at, drop-at-next, rows-at, rows-length}
 
 -- ---- one pair against the best so far
 module _ (ls : List Line) (after : Gate → List ℕ) (top : ℕ) (g : Gate) (b : Best) where

@@ -1,20 +1,20 @@
 -- Each step of the rule makes the sum of the distances fall, so it ends with every row made, after no more gates than the first sum of distances.
 use mathlib.Core.Bool.{Bool, true, false, cond, _&&_, _||_}
-use mathlib.Core.List.{List, [], _∷_, _++_, map}
+use mathlib.Core.List.{List, [], _∷_, _++_}
 use mathlib.Core.Logic.{_⊎_, inl, inr, ⊎-elim}
 use mathlib.Core.Path.{_≡_, refl, sym, ap, _∙_, subst}
-use Prim.Native.Nat.{ℕ, zero, suc, _+_, _-_, _*_, _≤_, _<_}
+use Prim.Native.Nat.{ℕ, zero, suc, _+_, _-_, _≤_, _<_}
 use native.Mathlib.Decide.{ℕ-discrete}
 use native.Mathlib.Omega.{arith}
 use borrow.Author.Tests.{le-leb, leb-true, eqb-true, eqb-false, eq-eqb, ltb-true, ltb-false}
 use lib.Dec.{leb, ltb, eqb}
 use lib.ListN.{length}
 use Rattle.distance.specs.Base.{Line, Gate, gate, made, run, Reads, Small, Program}
-use Rattle.distance.specs.Distance.{Gap, gates, never}
+use Rattle.distance.specs.Distance.{gates}
 use Rattle.distance.proofs.Tests.{clash, both-cases}
 use Rattle.builder.specs.Rule.{Row, reach, count, away, distances, sum, deepest, makes, firstIn, firstPair, immediate, Best, start, better, scored, consider, alongLine, allPairs, distancesAfter, bestPair, nextGate, greedy}
 use Rattle.builder.specs.Kept.{Sound, Sounds, Alive}
-use Rattle.builder.proofs.Reach.{UpTo, small-made, reach-fewest, reach-more, reach-program, reach-pair, now-made, last-makes}
+use Rattle.builder.proofs.Reach.{small-made, reach-fewest, reach-more, reach-program, reach-pair, now-made, last-makes}
 
 -- a row is among the rows
 pub data In (r : Row) : List Row → Type 0 where

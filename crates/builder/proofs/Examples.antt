@@ -1,10 +1,8 @@
 -- K1 to K5, and the edge of row 255 at D = 2, computed from the definitions.
-use mathlib.Core.List.{List, [], _∷_}
+use mathlib.Core.List.{[], _∷_}
 use mathlib.Core.Path.{_≡_, refl}
-use Prim.Native.Nat.{ℕ}
 use Rattle.circuit.specs.declared.Answer.the-variants.{Done, Refused}
 use Rattle.circuit.specs.declared.Refusal.the-variants.{TooShallow}
-use Rattle.circuit.specs.Lines.{Listing}
 use Rattle.circuit.specs.Stored.{stored, gateBytes, outBytes}
 use Rattle.circuit.specs.Reading.{shaped}
 use Rattle.distance.specs.Base.{gate}

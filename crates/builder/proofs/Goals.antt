@@ -1,10 +1,8 @@
 -- Laws of the goals: the sums over the goals are the sums over the rows, and the ways that the loops over goals go.
-use mathlib.Core.Bool.{Bool, true, false, cond, _&&_, _||_}
-use mathlib.Core.List.{List, [], _∷_, _++_, map}
-use mathlib.Core.Path.{_≡_, refl, sym, ap, ap₂, _∙_, subst}
+use mathlib.Core.List.{List, [], _∷_, _++_}
+use mathlib.Core.Path.{_≡_, refl, sym, ap, ap₂, _∙_}
 use Prim.Native.Nat.{ℕ, zero, suc, _+_, _-_, _*_, _^_, _≤_, _<_}
 use native.Mathlib.Nat.{mul-le-mul}
-use native.Mathlib.Numerals.{add-one, sub-one}
 use native.Mathlib.Omega.{arith}
 use lib.ListN.{length, getD, take, drop, set, length-append, drop-of-length-le}
 use lib.Seq.{length-take-le, take-length}
@@ -12,7 +10,7 @@ use Rattle.circuit.specs.Lines.{greatest}
 use Rattle.distance.specs.Base.{Line, Gate, made, Small}
 use Rattle.distance.specs.Table.{costAt}
 use Rattle.distance.proofs.Entries.{cost-is}
-use Rattle.builder.specs.Rule.{Row, row, away, distances, sum, squares, distancesAfter}
+use Rattle.builder.specs.Rule.{row, away, distances, sum, squares, distancesAfter}
 use Rattle.builder.specs.Kept.{Sound, Sounds, rowsOf, padded, Held, nextGap, nextGaps, misses, missed, added, goalsAfter, goalsWith, toGo, placeOf, roomOf, lowOf, Aimed, Goals}
 use Rattle.builder.proofs.Lookup.{look-made, look-up, misses-le}
 use Rattle.builder.proofs.Lists.{drop-at-next, take-next, padded-none, padded-put}

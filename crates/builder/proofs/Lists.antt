@@ -9,7 +9,7 @@ use lib.ListN.{length, getD, take, drop, set, replicate, length-append, length-r
 use lib.Seq.{take-suc, take-at, take-length, drop-cons, length-take-le}
 use Rattle.circuit.specs.Lines.{greatest}
 use Rattle.circuit.proofs.LineLaws.{put-next}
-use Rattle.distance.specs.Base.{Line, line, lines, none, Gate, gate, made, Small}
+use Rattle.distance.specs.Base.{Line, line, lines, none, gate, made, Small}
 use Rattle.builder.specs.Rule.{Row, row}
 use Rattle.builder.specs.Kept.{rowsOf, padded}
 

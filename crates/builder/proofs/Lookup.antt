@@ -1,24 +1,23 @@
 -- The distance after one line more is one look-up in the table of the base.
-use mathlib.Core.Bool.{Bool, true, false, cond, _&&_, _||_}
+use mathlib.Core.Bool.{Bool, true, false, cond}
 use mathlib.Core.List.{List, [], _∷_, _++_}
 use mathlib.Core.Path.{_≡_, refl, sym, ap, ap₂, _∙_, subst}
-use Prim.Native.Nat.{ℕ, zero, suc, _+_, _-_, _*_, _^_, _≤_, _<_, min}
-use native.Mathlib.Decide.{decLe, decLt}
+use Prim.Native.Nat.{ℕ, suc, _+_, _-_, _*_, _^_, _≤_, _<_, min}
+use native.Mathlib.Decide.{decLe}
 use native.Mathlib.Nat.{zero-add}
 use native.Mathlib.Omega.{arith}
-use borrow.Author.Tests.{le-leb, lt-leb, leb-true, leb-false, lt-ltb, le-ltb, eq-eqb, ne-eqb}
+use borrow.Author.Tests.{le-leb, lt-leb, leb-true, leb-false}
 use lib.Bits.{bitXor, xor-lt, xor-block, xor-comm, xor-zero-r}
-use lib.Dec.{leb, ltb, eqb}
+use lib.Dec.{leb}
 use lib.ListN.{length, getD}
-use Rattle.distance.specs.Base.{Line, line, Gate, made, Small}
+use Rattle.distance.specs.Base.{Line, Gate, made, Small}
 use Rattle.distance.specs.Distance.{Gap, gates, never, can}
-use Rattle.distance.specs.Table.{far, costAt, least}
+use Rattle.distance.specs.Table.{least}
 use Rattle.distance.proofs.Tests.{clash}
 use Rattle.distance.proofs.Least.{can-least, least-snoc}
-use Rattle.distance.proofs.Entries.{cost-is}
 use Rattle.builder.specs.Rule.{Row, reach, count, away}
 use Rattle.builder.specs.Kept.{Sound, Held, misses}
-use Rattle.builder.proofs.Reach.{UpTo, small-made, under-far, reach-fewest, reach-none, reach-can, reach-set, reach-more, put-first}
+use Rattle.builder.proofs.Reach.{small-made, under-far, reach-fewest, reach-none, reach-can, reach-set, reach-more, put-first}
 
 -- the two ways of the look-up
 module _ (h : List ℕ) (place room m c : ℕ) where

@@ -1,8 +1,8 @@
 -- What `plan` and `build` give, from what their parts give; and that two results meeting a promise are equal.
-use mathlib.Core.Bool.{Bool, true, false, cond, _&&_}
-use mathlib.Core.List.{List, [], _∷_, map}
-use mathlib.Core.Path.{_≡_, refl, sym, ap, _∙_, subst}
-use Prim.Native.Nat.{ℕ, _≤_, _<_}
+use mathlib.Core.Bool.{true, cond}
+use mathlib.Core.List.{List}
+use mathlib.Core.Path.{_≡_, refl, sym, ap, _∙_}
+use Prim.Native.Nat.{ℕ, _≤_}
 use native.Mathlib.Omega.{arith}
 use borrow.Author.Tests.{le-leb}
 use lib.Dec.{leb}
@@ -23,7 +23,7 @@ use Rattle.distance.specs.Base.{inputs}
 use Rattle.builder.specs.declared.Planned.{Planned}
 use Rattle.builder.specs.Rule.{row, taken, xorGate, circuitOf}
 use Rattle.builder.specs.Call.{within, built, refusal, planned, planOf, roomAnswer, buildAnswer, Builds, BuildsNumbered}
-use Rattle.builder.proofs.Refusals.{Ranged, ranged, Accepted, accepted}
+use Rattle.builder.proofs.Refusals.{ranged, accepted}
 use Rattle.builder.proofs.Begin.{taken-few}
 
 -- ---- the circuit built has room in a stored form

@@ -1,5 +1,5 @@
 -- Laws of a row's distance from a base: what a line more does to it, and that a line made from two of the base takes off one gate at most.
-use mathlib.Core.Bool.{Bool, true, false}
+use mathlib.Core.Bool.{true}
 use mathlib.Core.List.{List, [], _∷_, _++_}
 use mathlib.Core.Path.{_≡_, refl, sym, ap, _∙_, subst}
 use Prim.Native.Nat.{ℕ, zero, suc, _+_, _-_, _^_, _≤_, _<_}
@@ -10,10 +10,9 @@ use lib.ListN.{length, getD, length-append, List·getD-append}
 use lib.Seq.{getD-append-seam}
 use lib.Pow.{pow-mono, pow-pos}
 use lib.Bits.{xor-lt}
-use Rattle.distance.specs.Base.{Line, none, Gate, gate, made, Small, Makes, Program, Fewest, SetOf}
+use Rattle.distance.specs.Base.{Line, none, Gate, made, Small, Makes, Program, Fewest, SetOf}
 use Rattle.distance.specs.Distance.{Gap, gates, never, distance, can}
 use Rattle.distance.specs.Table.{far, least}
-use Rattle.distance.proofs.Tests.{clash}
 use Rattle.distance.proofs.Upper.{Pair, progress}
 use Rattle.distance.proofs.Fewest.{found, first-gates, Barren, distance-fewest, distance-never, distance-smallest, distance-no-set, at-most-n}
 use Rattle.distance.proofs.Least.{can-least}

@@ -1,21 +1,19 @@
 -- Laws of the look at a call: tests of every row, the weight of a row, and what an accepted call is.
-use mathlib.Core.Bool.{Bool, true, false, cond, not, _&&_, _||_}
+use mathlib.Core.Bool.{Bool, true, false, not, _||_}
 use mathlib.Core.List.{List, [], _∷_, map}
 use mathlib.Core.Path.{_≡_, refl, sym, ap, ap₂, _∙_}
 use Prim.Native.Nat.{ℕ, zero, suc, _+_, _-_, _*_, _/_, _%_, _^_, _≤_, _<_}
 use native.Mathlib.Nat.{one-mul, zero-mul, zero-add, pow-suc}
-use native.Mathlib.Numerals.{add-one, one-add}
+use native.Mathlib.Numerals.{add-one}
 use native.Mathlib.Omega.{arith}
-use borrow.Author.Tests.{eq-eqb, ne-eqb, le-leb, lt-leb, lt-ltb, le-ltb, leb-true, leb-false, eqb-true, eqb-false, ltb-false, not-true}
-use lib.Dec.{leb, ltb, eqb}
+use borrow.Author.Tests.{eq-eqb, ne-eqb, le-leb, lt-leb, leb-true, leb-false, not-true}
+use lib.Dec.{leb, eqb}
 use lib.ListN.{length, getD, drop, drop-of-length-le}
 use lib.Pow.{high, low, pow-pos}
-use Rattle.circuit.specs.declared.Answer.{Answer}
 use Rattle.circuit.specs.declared.Answer.the-variants.{Done, Refused}
-use Rattle.circuit.specs.declared.Refusal.{Refusal}
 use Rattle.circuit.specs.declared.Refusal.the-variants.{Shape, Target, TooDeep, TooShallow}
 use Rattle.circuit.specs.Lines.{anyOf}
-use Rattle.circuit.specs.Reading.{shaped, unless}
+use Rattle.circuit.specs.Reading.{shaped}
 use Rattle.circuit.proofs.Accept.{past, both}
 use Rattle.distance.specs.Base.{weight}
 use Rattle.builder.specs.Call.{badRow, tooHeavy, refusal}

@@ -1,34 +1,32 @@
 -- The circuit built for a matrix that nothing refuses: its gates, its depth, its outputs; and that 10 is given exactly where there is no program.
-use mathlib.Core.Bool.{Bool, true, false, cond, not, _&&_, _||_}
+use mathlib.Core.Bool.{Bool, true, false, cond}
 use mathlib.Core.List.{List, [], _∷_, _++_, map}
 use mathlib.Core.Path.{_≡_, refl, sym, ap, ap₂, _∙_, subst}
-use Prim.Native.Nat.{ℕ, zero, suc, _+_, _-_, _*_, _^_, _≤_, _<_}
-use native.Mathlib.Decide.{ℕ-discrete}
+use Prim.Native.Nat.{ℕ, zero, suc, _+_, _-_, _^_, _≤_, _<_}
 use native.Mathlib.Omega.{arith}
 use borrow.Author.Tests.{lt-ltb, ltb-true, eqb-true, leb-true, eq-eqb, le-leb}
-use lib.Dec.{leb, ltb, eqb}
-use lib.ListN.{length, getD, length-append, length-map, List·getD-map}
-use Rattle.circuit.specs.declared.Answer.{Answer}
+use lib.Dec.{leb, eqb}
+use lib.ListN.{length, getD, length-append, length-map}
 use Rattle.circuit.specs.declared.Answer.the-variants.{Done, Refused}
-use Rattle.circuit.specs.declared.Refusal.the-variants.{Shape, TooShallow}
+use Rattle.circuit.specs.declared.Refusal.the-variants.{TooShallow}
 use Rattle.circuit.specs.Lines as circuits
-use Rattle.circuit.specs.Lines.{Listing, gateAt, depthOf, outputOn, greatest, depthStep, truthStep, inputsOn, noGate, anyOf}
-use Rattle.circuit.specs.Reading.{shaped, andThen, gateAnswer, secondFits, outAnswer, gatesAnswer, outsAnswer, listingAnswer}
-use Rattle.distance.specs.Base.{Line, line, none, Gate, gate, made, run, Reads, Makes, Program, Small, inputs, weight}
+use Rattle.circuit.specs.Lines.{gateAt, depthOf, outputOn, greatest, depthStep, truthStep, anyOf}
+use Rattle.circuit.specs.Reading.{shaped, gateAnswer, secondFits, outAnswer, gatesAnswer, outsAnswer, listingAnswer}
+use Rattle.distance.specs.Base.{Line, line, none, Gate, made, run, Reads, Makes, Small, inputs, weight}
 use Rattle.distance.specs.Distance.{gates}
 use Rattle.distance.proofs.Tests.{both-cases}
 use Rattle.distance.proofs.Weight.{small-inputs}
 use Rattle.distance.proofs.Weight as weights
-use Rattle.builder.specs.Rule.{Row, row, reach, count, away, distances, sum, deepest, makes, greedy, taken, lowest, lowestFrom, xorGate, circuitOf}
+use Rattle.builder.specs.Rule.{Row, row, reach, count, away, distances, sum, deepest, makes, taken, lowest, lowestFrom, xorGate, circuitOf}
 use Rattle.builder.specs.Call.{within, built, badRow, tooHeavy, refusal}
 use Rattle.builder.specs.Matrix.{rowOn, Computes}
 use Rattle.builder.specs.Kept.{Sound, Sounds, Alive, Fit}
 use Rattle.builder.proofs.Reach.{reach-fewest}
 use Rattle.builder.proofs.Ends.{Within, within-snoc, Reached, enough}
 use Rattle.builder.proofs.Lists.{map-at}
-use Rattle.builder.proofs.Refusals.{Accepted, accepted, fit, any-some, refused-shallow, refused-not}
-use Rattle.builder.proofs.Begin.{Right, rights, first-alive, first-sound, first-sum, first-little, inputs-length}
-use Rattle.builder.proofs.Promise.{built-shaped, built-outs, built-gates, built-inputs}
+use Rattle.builder.proofs.Refusals.{Accepted, fit, any-some, refused-shallow, refused-not}
+use Rattle.builder.proofs.Begin.{rights, first-alive, first-sound, first-sum, first-little, inputs-length}
+use Rattle.builder.proofs.Promise.{built-shaped, built-gates}
 use Rattle.builder.proofs.Values.{lines-whole, depth-step, input-depths, value-step, input-values, row-none}
 
 -- ---- a line that makes a row, and the lowest such line

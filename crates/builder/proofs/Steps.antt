@@ -1,5 +1,5 @@
 -- Laws of the steps: what a state gives to the choice of a gate, the state with a gate more, and the end.
-use mathlib.Core.Bool.{Bool, true, false, cond, _&&_}
+use mathlib.Core.Bool.{Bool, true, false, cond}
 use mathlib.Core.List.{List, [], _∷_, _++_, map, append-assoc, append-nil}
 use mathlib.Core.Path.{_≡_, refl, sym, ap, ap₂, _∙_, subst}
 use Prim.Native.Nat.{ℕ, zero, suc, _+_, _-_, _*_, _^_, _≤_, _<_, max}
@@ -7,22 +7,22 @@ use native.Mathlib.Numerals.{add-one}
 use native.Mathlib.Omega.{arith}
 use borrow.Author.Tests.{le-leb, lt-leb, eq-eqb, ne-eqb, eqb-false}
 use lib.Bits.{bitXor, xor-lt}
-use lib.Dec.{leb, eqb}
+use lib.Dec.{eqb}
 use lib.ListN.{length, getD, take, drop, set, length-set, length-map, length-append}
-use lib.Seq.{length-take-le, take-suc-set, getD-take, getD-set-other, getD-set-same}
+use lib.Seq.{length-take-le, take-suc-set, getD-take}
 use Rattle.circuit.specs.Lines.{greatest}
 use Rattle.distance.specs.Base.{Line, line, lines, none, Gate, gate, made, run, Small, Shallow}
 use Rattle.distance.specs.Table.{far, costAt}
 use Rattle.distance.proofs.Entries.{cost-is}
 use Rattle.distance.proofs.Search.{lines-at, lines-end}
 use Rattle.builder.specs.declared.grow.State.{State}
-use Rattle.builder.specs.Rule.{Row, row, away, distances, sum, deepest, makes, lowest, lowestFrom, distancesAfter, nextGate, greedy, taken}
-use Rattle.builder.specs.Kept.{Sound, Sounds, Alive, rowsOf, padded, Held, Refilled, nextGaps, Lowering, base, Choosing, Chosen, Poised, Tabled, Next, Stepped, Stands, Grown}
+use Rattle.builder.specs.Rule.{Row, row, away, distances, sum, deepest, makes, lowest, lowestFrom, nextGate, greedy, taken}
+use Rattle.builder.specs.Kept.{Sounds, Alive, rowsOf, padded, Held, Refilled, nextGaps, Lowering, base, Choosing, Poised, Tabled, Next, Stepped, Stands, Grown}
 use Rattle.builder.proofs.Reach.{small-get, small-made, away-lt}
 use Rattle.builder.proofs.Ends.{Less, next-less, alive-more}
 use Rattle.builder.proofs.Goals.{next-distances, next-falls}
 use Rattle.builder.proofs.KeptUp.{held-more, cost-le}
-use Rattle.builder.proofs.Lists.{lines-length, lines-get, lines-snoc, made-at, rows-length, rows-at, rows-limits, map-at, padded-length, padded-take, padded-put, greatest-below}
+use Rattle.builder.proofs.Lists.{lines-length, lines-get, lines-snoc, rows-length, rows-at, map-at, padded-length, padded-take, padded-put, greatest-below}
 
 -- ---- the row's lowest line
 module _ (ms ds : List ℕ) (r : Row) (i : ℕ) (l : length ms ≡ length ds) where

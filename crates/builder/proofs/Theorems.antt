@@ -4,23 +4,22 @@ use mathlib.Core.List.{List, [], _∷_, map}
 use mathlib.Core.Logic.{_↔_}
 use mathlib.Core.Path.{_≡_, refl}
 use Prim.Native.Nat.{ℕ, zero, suc, _-_, _≤_, _<_}
-use native.Mathlib.Omega.{arith}
-use lib.ListN.{length, getD, List·getD-map}
+use lib.ListN.{length, getD}
 use Rattle.circuit.specs.declared.Answer.the-variants.{Done, Refused}
 use Rattle.circuit.specs.declared.Refusal.the-variants.{TooShallow}
 use Rattle.circuit.specs.declared.Writing.{Writing}
-use Rattle.circuit.specs.Lines.{Listing, gateAt, noGate, depthOf, outputOn, anyOf}
+use Rattle.circuit.specs.Lines.{gateAt, noGate, depthOf, outputOn, anyOf}
 use Rattle.circuit.specs.Stored.{stored}
-use Rattle.circuit.specs.Reading.{shaped, listingAnswer, readStored}
+use Rattle.circuit.specs.Reading.{shaped, readStored}
 use Rattle.circuit.specs.Reading.Outcome.{found}
 use Rattle.circuit.proofs.Round.{read-stored}
-use Rattle.distance.specs.Base.{Line, Gate, made, Small, inputs, weight, gate}
+use Rattle.distance.specs.Base.{Line, Gate, Small, inputs, weight}
 use Rattle.builder.specs.declared.Planned.{Planned}
-use Rattle.builder.specs.Rule.{Row, away, distances, sum, nextGate, taken, xorGate, circuitOf}
+use Rattle.builder.specs.Rule.{Row, distances, sum, nextGate, taken, xorGate, circuitOf}
 use Rattle.builder.specs.Call.{within, built, badRow, tooHeavy, refusal, planOf, Builds}
 use Rattle.builder.specs.Matrix.{rowOn, Computes}
-use Rattle.builder.specs.Kept.{Sound, Sounds, Alive}
-use Rattle.builder.proofs.Refusals.{accepted, Somewhere, any-some}
+use Rattle.builder.specs.Kept.{Sounds, Alive}
+use Rattle.builder.proofs.Refusals.{accepted}
 use Rattle.builder.proofs.Ends as ends
 use Rattle.builder.proofs.Solved as solved
 use Rattle.builder.proofs.Promise as promise

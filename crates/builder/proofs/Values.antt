@@ -1,18 +1,17 @@
 -- What a line has in the circuit built, found from its mask and depth in the base: its depth, and its value on each input.
-use mathlib.Core.Bool.{Bool}
 use mathlib.Core.List.{List, [], _∷_, _++_, map, map-append}
 use mathlib.Core.Path.{_≡_, refl, sym, ap, ap₂, _∙_}
 use Prim.Native.Nat.{ℕ, zero, suc, _+_, _-_, _*_, _/_, _%_, _^_, _≤_, _<_, min, max}
-use native.Mathlib.Decide.{ℕ-discrete, decLt}
-use native.Mathlib.Nat.{add-zero, zero-mul, zero-add, one-mul, div-eq-of-lt, pow-suc}
+use native.Mathlib.Decide.{ℕ-discrete}
+use native.Mathlib.Nat.{add-zero, one-mul, div-eq-of-lt, pow-suc}
 use native.Mathlib.Omega.{arith}
-use lib.Bits.{bitAnd, bitXor, differ, and-zero-l}
+use lib.Bits.{bitAnd, bitXor, differ}
 use lib.ListN.{length, getD, take, replicate, List·getD-map, length-map}
 use lib.Pow.{high, pow-pos, pow-lt, pow-add}
 use lib.Seq.{take-suc, take-length}
-use Rattle.circuit.specs.Gate.{bit, truth}
+use Rattle.circuit.specs.Gate.{bit}
 use Rattle.circuit.specs.Lines as circuits
-use Rattle.circuit.specs.Lines.{reads, upto, noGate, depthStep, truthStep, inputsOn, greatest}
+use Rattle.circuit.specs.Lines.{reads, upto, noGate, depthStep, truthStep, inputsOn}
 use Rattle.circuit.proofs.GateLaws.{bit-and, bit-xor, bit-lt, differ-lt}
 use Rattle.distance.specs.Base.{Line, line, none, Gate, gate, made, run, inputs}
 use Rattle.builder.specs.Rule.{xorGate}

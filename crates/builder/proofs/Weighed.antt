@@ -1,15 +1,15 @@
 -- Laws of the weighing of pairs by goals: the ways that a turn at a pair goes, and that the goals choose the pair that the rows choose.
-use mathlib.Core.Bool.{Bool, true, false, cond}
-use mathlib.Core.List.{List, [], _∷_, _++_}
-use mathlib.Core.Path.{_≡_, refl, sym, ap, ap₂, _∙_, subst}
-use Prim.Native.Nat.{ℕ, zero, suc, _+_, _-_, _*_, _^_, _≤_, _<_, max}
+use mathlib.Core.Bool.{Bool, cond}
+use mathlib.Core.List.{List, [], _∷_}
+use mathlib.Core.Path.{_≡_, sym, ap, ap₂, _∙_, subst}
+use Prim.Native.Nat.{ℕ, suc, _-_, _*_, _^_, _≤_, _<_, max}
 use native.Mathlib.Omega.{arith}
 use lib.Bits.{bitXor, xor-lt}
 use lib.ListN.{length, getD, take}
 use Rattle.circuit.specs.Lines.{greatest}
-use Rattle.distance.specs.Base.{Line, line, lines, Gate, gate, made}
+use Rattle.distance.specs.Base.{Line, lines, Gate, gate, made}
 use Rattle.builder.specs.Rule.{Row, row, away, distances, sum, squares, deepest, Best, best, start, better, consider, allPairs, distancesAfter, bestPair}
-use Rattle.builder.specs.Kept.{Sound, rowsOf, padded, missed, goalsAfter, goalsWith, toGo, placeOf, roomOf, lowOf, Goals, Aimed, Choosing, Weighing}
+use Rattle.builder.specs.Kept.{Sound, rowsOf, goalsAfter, goalsWith, toGo, placeOf, roomOf, lowOf, Goals, Aimed, Choosing, Weighing}
 use Rattle.builder.proofs.Reach.{away-lt}
 use Rattle.builder.proofs.Goals.{Missed, Alike, alike, are-goals}
 use Rattle.builder.proofs.Lists.{made-at, lines-length, lines-small, rows-length, rows-at, rows-limits, map-at, padded-take, greatest-below}

@@ -1,17 +1,17 @@
 -- What the code keeps from step to step, and what its parts ask and give: the public promises name none of this.
-use mathlib.Core.Bool.{Bool, true, false, cond}
+use mathlib.Core.Bool.{Bool, false, cond}
 use mathlib.Core.List.{List, [], _∷_, _++_, map}
 use mathlib.Core.Path.{_≡_}
 use Prim.Native.Nat.{ℕ, zero, suc, _+_, _-_, _*_, _^_, _≤_, _<_}
 use lib.Bits.{bitXor}
-use lib.Dec.{leb, ltb, eqb}
+use lib.Dec.{leb, eqb}
 use lib.ListN.{length, getD, take, set, replicate}
 use Rattle.circuit.specs.Lines.{greatest}
 use Rattle.distance.specs.Base.{Line, lines, Small, Shallow, Gate, gate, made, run, weight}
 use Rattle.distance.specs.Distance.{gates}
 use Rattle.distance.specs.Table.{far, costAt, least, relaxed}
 use Rattle.builder.specs.declared.grow.State.{State}
-use Rattle.builder.specs.Rule.{Row, row, reach, count, away, distances, sum, nextGate, greedy, taken}
+use Rattle.builder.specs.Rule.{Row, row, reach, count, distances, sum, nextGate, greedy, taken}
 
 -- the rows of a list of masks and a list of limits
 abbrev pub rowsOf : List ℕ → List ℕ → List Row

@@ -1,3 +1,4 @@
+-- The definitions. A reader begins with Rule, then Call and Matrix; Kept is what the code keeps, and no public promise names it.
 pub mod Rule
 pub mod Call
 pub mod Matrix

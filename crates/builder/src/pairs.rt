@@ -5,7 +5,7 @@ ghost use lib.ListN.{length, getD};
 ghost use Rattle.circuit.specs.Lines.{greatest};
 ghost use Rattle.distance.specs.Base.{lines, Shallow, gate};
 ghost use Rattle.builder.specs.Rule.{row, squares, best, better, start, firstPair, allPairs, bestPair};
-ghost use Rattle.builder.specs.Kept.{rowsOf, padded, Capped, misses as missesOf, goalsAfter, goalsWith, Goals as AreGoals, Weighing, Aimed, Choosing, Chosen};
+ghost use Rattle.builder.specs.Kept.{rowsOf, Capped, misses as missesOf, goalsAfter, goalsWith, Goals as AreGoals, Weighing, Aimed, Choosing, Chosen};
 use distance::table::cost;
 
 // The rows that are not made yet: the table's place, the room 2^limit, and the distance less one, of each.

@@ -69,7 +69,7 @@ fn lowest(masks: &[u8], depths: &[u8], t: u8, limit: u8) -> usize
 }
 
 // The lines that the outputs name.
-pub(crate) fn outputs(masks: &[u8], depths: &[u8], rows: &[u8], limits: &[u8]) -> [u8; 32]
+fn outputs(masks: &[u8], depths: &[u8], rows: &[u8], limits: &[u8]) -> [u8; 32]
     requires { ⌜ length (now masks) ≡ length (now depths) ⌝ ∗ ⌜ length (now rows) ≡ length (now limits) ⌝ ∗ ⌜ length (now rows) ≤ 32 ⌝ ∗ ⌜ length (now masks) ≤ 256 ⌝ }
     ensures { λ r. ⌜ r ≡ padded 32 (map (lowestOf (lines (now (masks .entry)) (now (depths .entry)))) (rowsOf (now (rows .entry)) (now (limits .entry)))) ⌝ }
 {

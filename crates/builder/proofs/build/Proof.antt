@@ -1,5 +1,5 @@
 -- `build` meets its contract: a refusal leaves the room as it was, and the circuit is written by the writer.
-use mathlib.Core.Path.{_≡_, refl, sym, ap, _∙_}
+use mathlib.Core.Path.{sym, _∙_}
 use Rattle.builder.proofs.Promise.{plan-answer, plan-circuit, builds-refused, builds-done}
 use borrow.Author.Needs.{needs}
 use Rattle.builder.proofs.build.Statement.{statement}

@@ -1,7 +1,7 @@
 -- `plan` meets its contract: a refusal is what the look found, and nothing after it refuses.
-use mathlib.Core.Path.{_≡_, refl, sym, ap, _∙_}
+use mathlib.Core.Path.{sym, ap, _∙_}
 use Rattle.circuit.specs.declared.Answer.{Answer}
-use Rattle.circuit.specs.declared.Answer.the-variants.{Done, Refused}
+use Rattle.circuit.specs.declared.Answer.the-variants.{Done}
 use Rattle.circuit.specs.declared.Circuit.{Circuit}
 use Rattle.builder.specs.declared.Planned.{Planned}
 use Rattle.builder.specs.Call.{built, planned, planOf}

@@ -1,8 +1,7 @@
 -- `add_gate` meets its contract: the next gate reads two lines and is not too deep, so the state steps.
-use mathlib.Core.Path.{_≡_, sym}
+use mathlib.Core.Path.{sym}
 use Prim.Native.Nat.{_<_}
 use native.Mathlib.Omega.{arith}
-use lib.ListN.{length}
 use lib.Seq.{length-take-le}
 use Rattle.builder.proofs.Steps.{first-in, second-in, gaps-wide, lowering, next-wide, refilling-asks, stepped}
 use borrow.Author.Needs.{needs}

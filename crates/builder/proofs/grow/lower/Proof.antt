@@ -1,5 +1,4 @@
 -- `lower` meets its contract: a row that is made stays made, and the look-up tells of another.
-use mathlib.Core.Path.{sym}
 use Prim.Native.Nat.{_-_, _*_, _+_}
 use native.Mathlib.Omega.{arith}
 use Rattle.builder.proofs.Lookup.{misses-le}

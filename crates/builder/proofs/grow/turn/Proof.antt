@@ -1,7 +1,6 @@
 -- `turn` meets its contract: the parts of the arrays that are lent hold the base and the distances.
-use mathlib.Core.Path.{_≡_, sym}
+use mathlib.Core.Path.{sym}
 use native.Mathlib.Omega.{arith}
-use lib.ListN.{length}
 use lib.Seq.{length-take-le}
 use Rattle.builder.specs.Kept.{base}
 use Rattle.builder.proofs.Steps.{choosing, gaps-wide}

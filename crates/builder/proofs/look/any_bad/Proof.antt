@@ -1,10 +1,10 @@
 -- `any_bad` meets its contract: no row that was passed is bad.
-use mathlib.Core.Path.{_≡_, refl, sym, ap, _∙_}
+use mathlib.Core.Path.{_≡_, refl, sym, _∙_}
 use mathlib.Core.List.{map}
-use Prim.Native.Nat.{ℕ, _+_, _-_, _^_, _≤_, _<_}
+use Prim.Native.Nat.{_-_}
 use native.Mathlib.Omega.{arith}
 use borrow.Author.Needs.{needs}
-use lib.ListN.{length, drop, getD}
+use lib.ListN.{drop}
 use Rattle.circuit.specs.Lines.{anyOf}
 use Rattle.builder.specs.Call.{badRow}
 use Rattle.builder.proofs.Refusals.{any-hit, any-miss, any-end, bad-none, bad-high, bad-not}

@@ -1,11 +1,11 @@
 -- `any_heavy` meets its contract: no row that was passed is too heavy.
 use mathlib.Core.List.{map}
-use mathlib.Core.Path.{_≡_, refl, sym, ap, _∙_}
-use Prim.Native.Nat.{ℕ, _+_, _-_, _^_, _≤_, _<_}
+use mathlib.Core.Path.{_≡_, refl, sym, _∙_}
+use Prim.Native.Nat.{_-_, _^_}
 use native.Mathlib.Omega.{arith}
 use borrow.Author.Needs.{needs}
 use borrow.Author.Tests.{lt-ltb, le-ltb}
-use lib.ListN.{length, drop, getD}
+use lib.ListN.{drop, getD}
 use Rattle.circuit.specs.Lines.{anyOf}
 use Rattle.distance.specs.Base.{weight}
 use Rattle.builder.specs.Call.{tooHeavy}

@@ -2,7 +2,7 @@
 use mathlib.Core.Path.{sym, _∙_}
 use borrow.Author.Needs.{needs}
 use borrow.Author.Tests.{not-true, not-false}
-use Rattle.builder.proofs.Refusals.{refused-shape, refused-row, refused-deep, refused-shallow, refused-not, Ranged, ranged, fit}
+use Rattle.builder.proofs.Refusals.{refused-shape, refused-row, refused-deep, refused-shallow, refused-not, ranged, fit}
 use Rattle.builder.proofs.look.look.Statement.{statement}
 use Rattle.builder.proofs.look.look.Tie as tie
 

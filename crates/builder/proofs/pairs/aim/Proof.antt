@@ -1,11 +1,9 @@
 -- `aim` meets its contract: the goals so far are those of the rows looked at.
-use mathlib.Core.List.{List}
 use mathlib.Core.Logic.{⊎-elim}
-use mathlib.Core.Path.{_≡_, sym, ap, _∙_}
-use Prim.Native.Nat.{ℕ, suc, _+_, _-_, _*_, _≤_, _<_}
+use Prim.Native.Nat.{_-_}
 use native.Mathlib.Omega.{arith}
 use borrow.Author.Needs.{needs}
-use lib.ListN.{length, getD, set}
+use lib.ListN.{getD}
 use Rattle.builder.proofs.Goals.{Aiming, aiming-start, aiming-made, aiming-goal, aiming-end, aiming-eq}
 use Rattle.builder.proofs.pairs.aim.Statement.{statement}
 use Rattle.builder.proofs.pairs.aim.Tie as tie

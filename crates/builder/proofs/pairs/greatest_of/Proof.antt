@@ -1,11 +1,10 @@
 -- `greatest_of` meets its contract: the greatest is that of what was passed and what is left.
 use mathlib.Core.Logic.{⊎-elim}
-use mathlib.Core.Path.{_≡_, sym, ap, _∙_}
+use mathlib.Core.Path.{_≡_}
 use Prim.Native.Nat.{max, _-_}
 use native.Mathlib.Omega.{arith}
 use borrow.Author.Needs.{needs}
-use lib.ListN.{length, drop, getD}
-use lib.Seq.{drop-length}
+use lib.ListN.{drop}
 use Rattle.circuit.specs.Lines.{greatest}
 use Rattle.builder.proofs.Lists.{greatest-next, greatest-end}
 use Rattle.builder.proofs.pairs.greatest_of.Statement.{statement}

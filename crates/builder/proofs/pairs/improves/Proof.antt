@@ -1,5 +1,4 @@
 -- `improves` meets its contract: the three ways of the comparison.
-use native.Mathlib.Omega.{arith}
 use borrow.Author.Tests.{lt-ltb, le-ltb, eq-eqb, ne-eqb}
 use Rattle.builder.proofs.pairs.improves.Statement.{statement}
 use Rattle.builder.proofs.pairs.improves.Tie as tie

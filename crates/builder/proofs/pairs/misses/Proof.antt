@@ -1,7 +1,6 @@
 -- `misses` meets its contract: the place and a byte make an index below 2048, and the sum fits as no entry is above "none".
 use mathlib.Core.Path.{sym}
 use native.Mathlib.Omega.{arith}
-use borrow.Author.Needs.{needs}
 use lib.Bits.{bitXor, xor-lt}
 use Rattle.builder.proofs.Lookup.{misses-near, misses-far}
 use Rattle.builder.proofs.pairs.misses.Statement.{statement}

@@ -1,12 +1,11 @@
 -- `next_gate` meets its contract: the rows that were passed are not one gate away.
-use mathlib.Core.Bool.{true, false}
-use mathlib.Core.Path.{_≡_, refl, sym, ap, _∙_}
-use Prim.Native.Nat.{ℕ, _+_, _-_, _≤_}
+use mathlib.Core.Path.{_≡_, sym, ap, _∙_}
+use Prim.Native.Nat.{ℕ, _-_}
 use native.Mathlib.Omega.{arith}
 use borrow.Author.Needs.{needs}
 use borrow.Author.Tests.{eq-eqb, ne-eqb}
-use lib.ListN.{length, getD}
-use Rattle.distance.specs.Base.{lines, gate}
+use lib.ListN.{getD}
+use Rattle.distance.specs.Base.{lines}
 use Rattle.builder.specs.Rule.{row, firstPair}
 use Rattle.builder.specs.Kept.{rowsOf}
 use Rattle.builder.proofs.Lists.{lines-length, rows-length}

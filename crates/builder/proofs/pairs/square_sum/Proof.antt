@@ -1,10 +1,10 @@
 -- `square_sum` meets its contract: what is summed, and the squares of the goals that are left.
-use mathlib.Core.Path.{_≡_, sym, ap, _∙_, subst}
+use mathlib.Core.Path.{sym, subst}
 use Prim.Native.Nat.{ℕ, _+_, _-_, _*_, _≤_}
 use native.Mathlib.Nat.{mul-le-mul}
 use native.Mathlib.Omega.{arith}
 use borrow.Author.Needs.{needs}
-use lib.ListN.{length, getD}
+use lib.ListN.{getD}
 use Rattle.builder.specs.Kept.{misses}
 use Rattle.builder.proofs.Goals.{Squared, squared-start, squared-more, squared-end, gap-le}
 use Rattle.builder.proofs.pairs.square_sum.Statement.{statement}

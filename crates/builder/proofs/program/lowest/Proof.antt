@@ -1,10 +1,9 @@
 -- `lowest` meets its contract: the lowest line is the lowest from here.
 use mathlib.Core.Logic.{⊎-elim}
 use mathlib.Core.Path.{_≡_, refl, sym, _∙_}
-use Prim.Native.Nat.{ℕ, _+_, _-_}
-use native.Mathlib.Omega.{arith}
+use Prim.Native.Nat.{_-_}
 use borrow.Author.Needs.{needs}
-use lib.ListN.{length, drop}
+use lib.ListN.{drop}
 use Rattle.distance.specs.Base.{lines}
 use Rattle.builder.specs.Rule.{row, lowest, lowestFrom}
 use Rattle.builder.proofs.Steps.{low-hit, low-other, low-deep, low-end}

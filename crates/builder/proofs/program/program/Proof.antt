@@ -1,7 +1,6 @@
 -- `program` meets its contract: the state that begins stands, and what has grown is the circuit.
 use mathlib.Core.List.{List, map}
-use mathlib.Core.Path.{_≡_, refl, sym, ap, _∙_, subst}
-use Prim.Native.Nat.{ℕ, _≤_}
+use mathlib.Core.Path.{_≡_, sym, ap, _∙_, subst}
 use native.Mathlib.Omega.{arith}
 use borrow.Author.Needs.{needs}
 use lib.ListN.{length, take, replicate, length-replicate}
@@ -11,7 +10,7 @@ use Rattle.builder.specs.Rule.{Row, lowest}
 use Rattle.builder.specs.Call.{within}
 use Rattle.builder.specs.Kept.{rowsOf, padded, base, Grown, Fit}
 use Rattle.builder.proofs.Refusals.{Accepted, accepted, fit}
-use Rattle.builder.proofs.Begin.{limits-taken, rows-within, begun-base, stands, circuit-held}
+use Rattle.builder.proofs.Begin.{rows-within, begun-base, stands, circuit-held}
 use Rattle.builder.proofs.program.program.Statement.{statement}
 use Rattle.builder.proofs.program.program.Tie as tie
 

@@ -1,13 +1,13 @@
 -- `fill` meets its contract: at i the array holds the table of the first i lines.
 use mathlib.Core.Path.{_≡_, sym, ap, ap₂, _∙_, subst}
 use mathlib.Core.List.{List, []}
-use Prim.Native.Nat.{ℕ, _+_, _-_, _≤_}
+use Prim.Native.Nat.{ℕ, _-_, _≤_}
 use native.Mathlib.Omega.{arith}
 use borrow.Author.Needs.{needs}
 use lib.ListN.{length, take}
 use lib.Seq.{take-length}
 use Rattle.distance.specs.Base.{Line, lines}
-use Rattle.distance.proofs.Entries.{cost-is, cost-lt}
+use Rattle.distance.proofs.Entries.{cost-is}
 use Rattle.builder.specs.Kept.{Held}
 use Rattle.builder.proofs.KeptUp.{held-none, fill-more, cost-le}
 use Rattle.builder.proofs.table.fill.Statement.{statement}

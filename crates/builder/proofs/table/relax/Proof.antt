@@ -1,12 +1,11 @@
 -- `relax` meets its contract: the entry that it asks is that of the sets one size smaller without the line.
 use mathlib.Core.Logic.{⊎-elim}
-use mathlib.Core.Path.{_≡_, sym, ap, _∙_}
+use mathlib.Core.Path.{ap, _∙_}
 use Prim.Native.Nat.{ℕ, _-_, _+_}
 use native.Mathlib.Omega.{arith}
 use borrow.Author.Needs.{needs}
 use lib.Bits.{bitXor}
 use lib.ListN.{getD, set}
-use Rattle.distance.specs.Table.{prev}
 use Rattle.builder.proofs.KeptUp.{asked, prev-lt, relaxed-with, relaxed-old}
 use borrow.Author.Needs.{needs}
 use Rattle.builder.proofs.table.relax.Statement.{statement}

@@ -1,0 +1,76 @@
+-- `bench::targets::wanted_words` meets its contract. The invariant: the outputs so far are filled in. Assumes nothing.
+use borrow.Author.Needs.{needs}
+use native.Mathlib.Omega.{arith}
+use mathlib.Core.Path.{_≡_, refl, ap, ap₂, _∙_}
+use mathlib.Core.Bool.{Bool}
+use mathlib.Core.List.{List}
+use Prim.Native.Nat.{ℕ, _≤_, _-_}
+use lib.ListN.{set}
+use Rattle.circuit.specs.declared.Words.{Words}
+use Rattle.circuit.specs.Gate.{noWords}
+use Rattle.circuit.specs.Lines.{upto}
+use Rattle.bench.specs.Held.{padded, wantedWords}
+use Rattle.bench.specs.Parts.{targetOf}
+use Rattle.bench.proofs.Packing.{upto-put}
+use Rattle.bench.proofs.targets.wanted_words.Statement.{statement}
+use Rattle.bench.proofs.targets.wanted_words.Tie as tie
+
+abbrev want : Bool → List ℕ → ℕ → Words
+want only bytes = wantedWords (targetOf only bytes)
+
+abbrev Inv-loop : tie.InvT-loop
+Inv-loop only target m wanted₀ j₀ wanted j = (j ≤ m) × (wanted ≡ padded (upto (want only target) j) 32 noWords)
+
+abbrev μ-loop : tie.MeasureT-loop
+μ-loop only target m wanted₀ j₀ wanted j = m - j
+
+loop-holds : tie.Need-loop-holds Inv-loop μ-loop
+unfolding upto
+loop-holds c = (search needs, refl)
+
+wanted-by-requires : tie.Need-wanted-by-requires Inv-loop μ-loop
+wanted-by-requires c κs = search needs
+
+mul-wanted : tie.Need-mul-wanted Inv-loop μ-loop
+mul-wanted c = search needs
+
+array-set-from-wanted : tie.Need-array-set-from-wanted Inv-loop μ-loop
+array-set-from-wanted c = search needs
+
+add-j : tie.Need-add-j Inv-loop μ-loop
+add-j c = search needs
+
+loop-less : tie.Need-loop-less Inv-loop μ-loop
+loop-less c = search needs
+
+loop-again : tie.Need-loop-again Inv-loop μ-loop
+loop-again c =
+    let h = c .before .before in
+    let a = h .before .args in
+    let j = h .loop .j in (
+      search needs,
+      ap₂ (λ (l : List Words) (w : Words). set l j w) (h .loop .inv .1) (c .wanted-by .ensures)
+          ∙ upto-put (want (a .only) (a .target .now)) noWords 32 j (omega arith),
+    )
+
+returns : tie.Need-returns Inv-loop μ-loop
+returns c =
+    let h = c .before in
+    let a = h .before .args in
+    let e : h .loop .j ≡ a .m = omega arith in
+    h .loop .inv .1 ∙ ap (λ (j : ℕ). padded (upto (want (a .only) (a .target .now)) j) 32 noWords) e
+
+pub wanted-words-spec : {M : Type 1} → statement M
+wanted-words-spec =
+    tie.close
+    (tie.spec
+    Inv-loop
+    μ-loop
+    loop-holds
+    wanted-by-requires
+    mul-wanted
+    array-set-from-wanted
+    add-j
+    loop-less
+    loop-again
+    returns)
