@@ -59,3 +59,25 @@ fn a_gate_that_feeds_nothing() {
     pair.point_output(0, 3);
     assert_eq!(report(&pair).verdict, Verdict::Wrong { input: 1, output: 0 });
 }
+
+/// The edges: 248 gates open, 249 do not (1); a table for nine outputs breaks its rule (8), and so does a table a byte too long.
+#[test]
+fn the_edges() {
+    let mut pair = Pair::default();
+    let mut largest = vec![0x53, 0x48, 8, 1, 248];
+    (0..248).for_each(|_| largest.extend([0x47, 0x54, 0, 0, 1]));
+    largest.extend([0x4F, 0x50, 255]);
+    pair.open(&largest, &Target::Matrix(vec![3]), limits(248, 1, 0));
+    assert_eq!(report(&pair).verdict, Verdict::Pass);
+    let mut more = largest.clone();
+    more[4] = 249;
+    more.splice(5..5, [0x47, 0x54, 0, 0, 1]);
+    assert_eq!(pair.ours.open_matrix(&more, &[3], limits(255, 255, 255)), Err(1));
+    let nine = [&[0x53, 0x48, 1, 9, 0][..], &[0x4F, 0x50, 0].repeat(9)].concat();
+    assert_eq!(pair.ours.open_table(&nine, &[0, 1], limits(0, 0, 0)), Err(8));
+    let eight = [&[0x53, 0x48, 1, 8, 0][..], &[0x4F, 0x50, 0].repeat(8)].concat();
+    assert_eq!(pair.ours.open_table(&eight, &[0, 255, 0], limits(0, 0, 0)), Err(8));
+    assert_eq!(report(&pair).verdict, Verdict::Pass);
+    pair.open(&eight, &Target::Table(vec![0, 255]), limits(0, 0, 0));
+    assert_eq!(report(&pair).verdict, Verdict::Pass);
+}

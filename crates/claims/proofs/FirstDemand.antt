@@ -1,0 +1,378 @@
+-- Demand 1: every call gets an answer; a refusal carries the number that the definition gives for its cause, and bench and lent bytes stay as before.
+-- What the causes are, in their order, is in Tables; `GivenExactly number table` says that the number is n exactly when the table says n.
+use mathlib.Core.Path.{_≡_, refl, sym, ap, _∙_, subst}
+use mathlib.Core.Bool.{Bool, true, false, cond}
+use mathlib.Core.List.{List, [], _∷_, map}
+use Prim.Native.Nat.{ℕ, zero, suc, _+_, _*_, _^_, _<_, _-_, _/_}
+use native.Mathlib.Omega.{arith}
+use lib.Dec.{leb}
+use lib.ListN.{length, getD, length-append}
+use Rattle.circuit.specs.declared.Refusal.{Refusal}
+use Rattle.circuit.specs.declared.Refusal.the-variants.{Target as BadTarget, NoRoom, NotThere, Shape, Length, Mark, UnknownKind, Operand, NoLine, NotXor, TooDeep, TooShallow, NothingOpen}
+use Rattle.circuit.specs.declared.Answer.{Answer}
+use Rattle.circuit.specs.declared.Answer.the-variants.{Done, Refused}
+use Rattle.circuit.specs.declared.Writing.the-variants.{Written, NotWritten}
+use Rattle.circuit.specs.declared.Circuit.{Circuit}
+use Rattle.circuit.specs.declared.Reading.{Reading}
+use Rattle.circuit.specs.declared.Writing.{Writing}
+use Rattle.circuit.specs.Lines.{Listing}
+use Rattle.circuit.specs.Stored.{stored, listingIn, gateBytes, outBytes, listed}
+use Rattle.circuit.specs.Reading.{refusalNo, answerNo, unless, readAnswer, readStored, readingOf, listingAnswer}
+use Rattle.circuit.specs.Reading.Outcome.{found}
+use Rattle.circuit.specs.Writing.{writingNo, writeAnswer, roomAfter, Wrote, writingCode, restoring, restoreAnswer, Restored}
+use Rattle.circuit.proofs.Accept.{whole}
+use Rattle.circuit.proofs.Round.{gate-bytes-length, out-bytes-length, read-stored, stored-read}
+use Rattle.circuit.proofs.Restoring.{answer-of}
+use Rattle.distance.specs.declared.Refusal.the-variants.{Inputs, Lists, Mask, Depth}
+use Rattle.distance.specs.declared.Looked.{Looked}
+use Rattle.distance.specs.declared.Looked.the-variants.{Sound as Looks, Unsound}
+use Rattle.distance.specs.declared.Answer.{Answer as Distance}
+use Rattle.distance.specs.Base.{lines, Line}
+use Rattle.distance.specs.Distance.{Gap, gates, never, distance, can, pickGap, gapFrom}
+use Rattle.distance.specs.Query as query
+use Rattle.distance.specs.Query.{lookAt, answered, answerOf}
+use Rattle.distance.proofs.Refuse.{fit}
+use Rattle.builder.specs.Call.{built, refusal, roomAnswer, buildAnswer, Builds, BuildsNumbered}
+use Rattle.builder.proofs.Refusals.{ranged}
+use Rattle.builder.proofs.Refusals as building
+use Rattle.builder.proofs.Promise.{built-few, built-outs}
+use Rattle.bench.specs.declared.Bench.{Bench}
+use Rattle.bench.specs.declared.Edit.{Edit}
+use Rattle.bench.specs.declared.Reported.{Reported}
+use Rattle.bench.specs.declared.Reported.the-variants.{Given, NotGiven}
+use Rattle.bench.specs.Target.{Target, isMatrix}
+use Rattle.bench.specs.State.{State, Present, nothing, present, Limits, SoundPresent}
+use Rattle.bench.specs.Calls.{after, openAnswer, openState, gateEditAnswer, gateEdited, outputEditAnswer, outputEdited, entryEditAnswer, entryEdited, limitsAnswer, reported, storeAnswer, gateEdit, editBy, readersOf, noRework, storedOf, OpenPromise, GatePromise, OutputPromise, EntryPromise, LimitsPromise, ReportPromise, StorePromise}
+use Rattle.bench.specs.Run.{Call, afterCall, presentAfter, Step, Runs}
+use Rattle.bench.specs.Run.Call.{opening, replacing, pointing, changing, limiting, reporting, storing}
+use Rattle.bench.specs.Held.{emptyBench, benchOf, Stands}
+use Rattle.bench.proofs.Standing.{circuit-fits}
+use Rattle.bench.proofs.SoundLaws.{Callable}
+use Rattle.bench.proofs.RunLaws.{after-calls, step-exists}
+use Rattle.coded.specs.declared.EditNumbers.{EditNumbers}
+use Rattle.coded.specs.declared.ReportNumbers.{ReportNumbers}
+use Rattle.coded.specs.Coded.{reportedCode, OpenCode, GateCode, OutputCode, EntryCode, LimitsCode, ReportCodePromise, StoreCode}
+use Rattle.claims.proofs.Causes.{first, accepted, GivenExactly, none-left, chain}
+use Rattle.claims.proofs.Tables.{OutOfRange, readTable, openTable, replaceTable, pointTable, changeTable, openOnly, storeTable, buildTable, distanceTable, distanceNo, reportedNo, callNo, callTable}
+use Rattle.claims.proofs.Following.{range-law, done-last, read-law, open-law, replace-law, point-law, change-law, limits-law, report-law, room-law, store-law, room-then, room-last, build-law, distance-law}
+
+-- ---- The numbers given back: 1 to 13, one for each refusal.
+
+abbrev pub refusals : List Refusal
+refusals =
+    Shape ∷ Length ∷ Mark ∷ UnknownKind ∷ Operand ∷ NoLine ∷ NotXor ∷ BadTarget ∷ TooDeep ∷ TooShallow ∷ NoRoom ∷ NotThere ∷ NothingOpen ∷ []
+
+pub numbers : map refusalNo refusals ≡ 1 ∷ 2 ∷ 3 ∷ 4 ∷ 5 ∷ 6 ∷ 7 ∷ 8 ∷ 9 ∷ 10 ∷ 11 ∷ 12 ∷ 13 ∷ []
+numbers = refl
+
+-- each refusal stands in the list at its number,
+pub numbered : (w : Refusal) → getD refusals (refusalNo w - 1) Shape ≡ w
+numbered Shape = refl
+numbered Length = refl
+numbered Mark = refl
+numbered UnknownKind = refl
+numbered Operand = refl
+numbered NoLine = refl
+numbered NotXor = refl
+numbered BadTarget = refl
+numbered TooDeep = refl
+numbered TooShallow = refl
+numbered NoRoom = refl
+numbered NotThere = refl
+numbered NothingOpen = refl
+
+-- so that two with the same number are the same,
+pub one-each : (v w : Refusal) → refusalNo v ≡ refusalNo w → v ≡ w
+one-each v w e = sym (numbered v) ∙ ap (λ (k : ℕ). getD refusals (k - 1) Shape) e ∙ numbered w
+
+not-zero : (w : Refusal) → refusalNo w ≡ 0 → ⊥
+not-zero w z = let e : w ≡ Shape = sym (numbered w) ∙ ap (λ (k : ℕ). getD refusals (k - 1) Shape) z in omega (arith, z, ap refusalNo e)
+
+-- and those of a distance query are numbers of this table: 1, 2, 8 and 9.
+pub query-numbers : (query.refusalNo Inputs ≡ refusalNo Shape) × (query.refusalNo Lists ≡ refusalNo Length) × (query.refusalNo Mask ≡ refusalNo BadTarget) × (query.refusalNo Depth ≡ refusalNo TooDeep)
+query-numbers = (refl, refl, refl, refl)
+
+-- ---- All calls on a bench
+
+unless-done : (a : Answer) (s : State) (p : Present) → (answerNo a ≡ 0 → ⊥) → after a s p ≡ p
+unless-done Done s p h = absurd (h refl)
+unless-done (Refused w) s p h = refl
+
+-- A refusal carries the number that the definition gives for its cause: a call's answer has the number n exactly when the call's table says n.
+pub call-numbers : (p : Present) (call : Call) → GivenExactly (callNo p call) (callTable p call)
+call-numbers p (opening bytes t l) = open-law bytes t
+call-numbers p (replacing k kind a b) = replace-law p k kind a b
+call-numbers p (pointing j line) = point-law p j line
+call-numbers p (changing i value) = change-law p i value
+call-numbers p (limiting l) = limits-law p
+call-numbers p reporting = report-law p
+call-numbers p (storing room) = store-law p (length room)
+
+-- A refused call, whatever was called, leaves what is present.
+pub refused-changes-nothing : (p : Present) (call : Call) → (callNo p call ≡ 0 → ⊥) → afterCall p call ≡ p
+refused-changes-nothing p (opening bytes t l) h = unless-done (openAnswer bytes t) (openState bytes t l) p h
+refused-changes-nothing nothing (replacing k kind a b) h = refl
+refused-changes-nothing (present s) (replacing k kind a b) h = unless-done (gateEditAnswer (present s) k kind a b) (gateEdited s k kind a b) (present s) h
+refused-changes-nothing nothing (pointing j line) h = refl
+refused-changes-nothing (present s) (pointing j line) h = unless-done (outputEditAnswer (present s) j line) (outputEdited s j line) (present s) h
+refused-changes-nothing nothing (changing i value) h = refl
+refused-changes-nothing (present s) (changing i value) h = unless-done (entryEditAnswer (present s) i value) (entryEdited s i value) (present s) h
+refused-changes-nothing nothing (limiting l) h = refl
+refused-changes-nothing (present s) (limiting l) h = absurd (h refl)
+refused-changes-nothing p reporting h = refl
+refused-changes-nothing p (storing room) h = refl
+
+-- ==== What the functions give. A refused call leaves each lent byte: a room that nothing was written to is as it was.
+
+left-alone : (bytes : List ℕ) {a : Writing} {w : Refusal} {room out : List ℕ} → NotWritten w ≡ a → out ≡ roomAfter a bytes room → out ≡ room
+left-alone bytes {room} e h = h ∙ sym (ap (λ (x : Writing). roomAfter x bytes room) e)
+
+-- An answer as one number is how many bytes, or 65,536 times the refusal's number. So the refusal's number is how often 65,536 goes into it: that
+-- is given exactly when the table says so, and where it is not 0 each byte of the room is as it was.
+abbrev pub NumberedRoom : ℕ → (ℕ → Type 0) → List ℕ → List ℕ → Type 0
+NumberedRoom r table room out = GivenExactly (r / 65536) table × ((r / 65536 ≡ 0 → ⊥) → out ≡ room)
+
+numbered-room : (a : Writing) → ((k : ℕ) → a ≡ Written k → k < 65536) → (r : ℕ) (table : ℕ → Type 0) (bytes room out : List ℕ)
+    → r ≡ writingCode a → out ≡ roomAfter a bytes room → GivenExactly (writingNo a) table → NumberedRoom r table room out
+numbered-room (Written k) small r table bytes room out e h g =
+    let z : r / 65536 ≡ 0 = omega (arith, e, small k refl) in
+    (subst (λ (n : ℕ). GivenExactly n table) (sym z) g, λ some. absurd (some z))
+numbered-room (NotWritten w) small r table bytes room out e h g =
+    let z : r / 65536 ≡ refusalNo w = omega (arith, e) in
+    (subst (λ (n : ℕ). GivenExactly n table) (sym z) g, λ some. h)
+
+written-size : (t : Bool) (size k : ℕ) → cond t (Written size) (NotWritten NoRoom) ≡ Written k → size ≡ k
+written-size true size k e = cc
+written-size false size k e = let z : _≡_ {A = ℕ} 0 1 = cc in absurd (omega arith)
+
+-- Length is 5 + 5g + 3m.
+pub stored-length : (c : Listing) → length (stored c) ≡ 5 + 5 * length (c .gates) + 3 * length (c .outs)
+stored-length c = omega (arith, length-append (gateBytes (c .gates)) (outBytes (c .outs)), gate-bytes-length (c .gates), out-bytes-length (c .outs))
+
+-- Reading stored bytes: fewer than 5 (2), `SH` (3), shape (1), whole length (2), then record by record mark (3), kind (4), operands (5), XOR only (7), line (6).
+pub read-numbers : (only : Bool) (s : List ℕ) (r : Reading) → r ≡ readingOf only s → GivenExactly (answerNo (r .answer)) (readTable only s accepted)
+read-numbers only s r e =
+    subst (λ (a : Answer). GivenExactly (answerNo a) (readTable only s accepted))
+    (done-last (readAnswer only s) ∙ sym (answer-of (readAnswer only s) (listingIn s)) ∙ sym (ap (λ (x : Reading). x .answer) e)) (read-law Done none-left only s)
+
+-- Each circuit has one stored form: bytes that read as a circuit are its stored bytes, and the stored bytes of a circuit that keeps the rules read as it.
+pub one-stored-form : (only : Bool) (s : List ℕ) (c : Listing) → readStored only s ≡ found c → s ≡ stored c
+one-stored-form = stored-read
+
+pub stored-reads-back : (only : Bool) (c : Listing) → listingAnswer only c ≡ Done → readStored only (stored c) ≡ found c
+stored-reads-back = read-stored
+
+-- Writing a circuit: out of range (1), the lent room shorter than the stored bytes (11).
+pub write-numbers : (c : Circuit) (room : List ℕ) (r : Writing) (out : List ℕ) → Wrote c room r out
+    → GivenExactly (writingNo r) (first 1 (OutOfRange (c .n) (c .m) (c .g)) (first 11 (length room < length (stored (listed c))) accepted))
+unfolding writeAnswer
+write-numbers c room r out h =
+    let size = length (stored (listed c)) in
+    subst (λ (a : Writing). GivenExactly (writingNo a) (first 1 (OutOfRange (c .n) (c .m) (c .g)) (first 11 (length room < size) accepted))) (sym (h .answer))
+    (chain (λ t. writingNo (cond t (cond (leb size (length room)) (Written size) (NotWritten NoRoom)) (NotWritten Shape))) (range-law (c .n) (c .m) (c .g)) (room-law size (length room)))
+
+pub write-refused : (c : Circuit) (room : List ℕ) (w : Refusal) (out : List ℕ) → Wrote c room (NotWritten w) out → out ≡ room
+write-refused c room w out h = left-alone (stored (listed c)) (h .answer) (h .bytes)
+
+-- Reading stored bytes and storing the circuit again: as reading, then the room (11).
+pub restore-numbered : (only : Bool) (s room : List ℕ) (r : ℕ) (out : List ℕ) → Restored only s room r out
+    → NumberedRoom r (readTable only s (first 11 (length room < length s) accepted)) room out
+restore-numbered only s room r out h =
+    numbered-room (restoreAnswer only s (length room)) small r (readTable only s (first 11 (length room < length s) accepted)) s room out (h .answer) (h .bytes)
+    (subst (λ (number : ℕ). GivenExactly number (readTable only s (first 11 (length room < length s) accepted))) (room-then (readAnswer only s) (length s) (length room))
+    (read-law (unless (leb (length s) (length room)) NoRoom Done) (room-last (length s) (length room)) only s))
+  where
+    small : (k : ℕ) → restoreAnswer only s (length room) ≡ Written k → k < 65536
+    small k e = by (readAnswer only s) refl e
+      where
+        by : (a : Answer) → readAnswer only s ≡ a → restoring a (length s) (length room) ≡ Written k → k < 65536
+        by Done q e = let w = whole only s q in omega (arith, written-size (leb (length s) (length room)) (length s) k e, w .m32, w .g248, w .long)
+        by (Refused w) q e = let z : _≡_ {A = ℕ} 0 1 = cc in absurd (omega arith)
+
+-- Build: 1, 8, 9, 10, 11.
+pub build-numbers : (n : ℕ) (ts : List ℕ) (D : ℕ) (room : List ℕ) (r : Writing) (out : List ℕ) → Builds n ts D room r out
+    → GivenExactly (writingNo r) (buildTable n ts D (length room))
+build-numbers n ts D room r out h =
+    subst (λ (a : Writing). GivenExactly (writingNo a) (buildTable n ts D (length room))) (sym (h .answer)) (build-law n ts D (length room))
+
+pub build-refused : (n : ℕ) (ts : List ℕ) (D : ℕ) (room : List ℕ) (w : Refusal) (out : List ℕ) → Builds n ts D room (NotWritten w) out → out ≡ room
+build-refused n ts D room w out h = left-alone (stored (built n ts D)) (h .answer) (h .bytes)
+
+pub build-numbered : (n : ℕ) (ts : List ℕ) (D : ℕ) (room : List ℕ) (r : ℕ) (out : List ℕ) → BuildsNumbered n ts D room r out
+    → NumberedRoom r (buildTable n ts D (length room)) room out
+unfolding buildAnswer
+build-numbered n ts D room r out h =
+    let a = buildAnswer n ts D (length room) in
+    numbered-room a small r (buildTable n ts D (length room)) (stored (built n ts D)) room out (h .answer) (h .bytes) (build-law n ts D (length room))
+  where
+    small : (k : ℕ) → buildAnswer n ts D (length room) ≡ Written k → k < 65536
+    small k e = by (refusal n ts D) refl e
+      where
+        by : (a : Answer) → refusal n ts D ≡ a → roomAnswer a (length (stored (built n ts D))) (length room) ≡ Written k → k < 65536
+        by Done q e =
+            let c = built n ts D in
+            let few = ranged n (length ts) 0 (building.accepted n ts D q .shape) .few in
+            omega (arith, written-size (leb (length (stored c)) (length room)) (length (stored c)) k e, stored-length c, built-few n ts D, built-outs n ts D, few)
+        by (Refused w) q e = let z : _≡_ {A = ℕ} 0 1 = cc in absurd (omega arith)
+
+-- Distance: 1, 2, 8, 9. No distance is not a refusal.
+pub distance-numbers : (n : ℕ) (ms ds : List ℕ) (t D : ℕ) (r : Distance) → r ≡ answerOf n ms ds t D → GivenExactly (distanceNo r) (distanceTable n ms ds t D)
+distance-numbers n ms ds t D r e = subst (λ (a : Distance). GivenExactly (distanceNo a) (distanceTable n ms ds t D)) (sym e) (distance-law n ms ds t D)
+
+-- the query as one number: 100 and the refusal's, and what is not refused is below that
+pub distance-numbered : (n : ℕ) (ms ds : List ℕ) (t D r : ℕ) → r ≡ query.answerNo (answerOf n ms ds t D) → GivenExactly (r - 100) (distanceTable n ms ds t D)
+unfolding answerOf
+distance-numbered n ms ds t D r e =
+    subst (λ (number : ℕ). GivenExactly number (distanceTable n ms ds t D)) (sym (ap (λ (k : ℕ). k - 100) e ∙ code (lookAt n ms ds t D) refl)) (distance-law n ms ds t D)
+  where
+    below : (f g t b k : ℕ) (ls : List Line) → gapFrom f g t b ls ≡ gates k → k < g + f
+    below zero g t b k ls e = let z : _≡_ {A = ℕ} 0 1 = cc in absurd (omega arith)
+    below (suc f) g t b k ls e = by (can (suc g) t b ls) e (below f (suc g) t b k ls)
+      where
+        by : (x : Bool) → pickGap x (gates g) (gapFrom f (suc g) t b ls) ≡ gates k → (gapFrom f (suc g) t b ls ≡ gates k → k < suc g + f) → k < g + suc f
+        by true e rest = let z : g ≡ k = cc in omega arith
+        by false e rest = omega (arith, rest e)
+
+    few : n < 9 → (x : Gap) → distance n (lines ms ds) t D ≡ x → query.answerNo (answered x) - 100 ≡ distanceNo (answered x)
+    few h (gates g) e = omega (arith, below n 0 t (2 ^ D) g (lines ms ds) e)
+    few h never e = refl
+
+    code : (x : Looked) → lookAt n ms ds t D ≡ x
+        → query.answerNo (query.unless x (answered (distance n (lines ms ds) t D))) - 100 ≡ distanceNo (query.unless x (answered (distance n (lines ms ds) t D)))
+    code Looks e = few (fit n ms ds t D e .few-inputs) (distance n (lines ms ds) t D) refl
+    code (Unsound w) e = omega arith
+
+-- ==== The calls on a bench that calls yield, from one with nothing open. `now` is what is present.
+
+pub gate-answer : (p : Present) (k kind a b : ℕ) → gateEdit p k kind a b .answer ≡ gateEditAnswer p k kind a b
+unfolding gateEditAnswer
+gate-answer nothing k kind a b = refl
+gate-answer (present s) k kind a b = by (gateEditAnswer (present s) k kind a b)
+  where
+    by : (x : Answer) → editBy x (readersOf (s .circuit) k) .answer ≡ x
+    by Done = refl
+    by (Refused w) = refl
+
+gate-refused : (p : Present) (k kind a b : ℕ) (w : Refusal) → gateEditAnswer p k kind a b ≡ Refused w → gateEdit p k kind a b ≡ noRework (Refused w)
+unfolding gateEditAnswer
+gate-refused nothing k kind a b w e = ap noRework e
+gate-refused (present s) k kind a b w e = ap (λ (x : Answer). editBy x (readersOf (s .circuit) k)) e
+
+module _ {b : Bench} {calls : List Call} (run : Runs emptyBench calls b) where
+  abbrev now : Present
+  now = presentAfter calls
+
+  stands : Stands b now
+  stands = after-calls run
+
+  -- a number that is the call's is given exactly when the table says so, and a refused call leaves the bench
+  given : (call : Call) {number : ℕ} → number ≡ callNo now call → GivenExactly number (callTable now call)
+  given call e = subst (λ (x : ℕ). GivenExactly x (callTable now call)) (sym e) (call-numbers now call)
+
+  kept : (call : Call) {number : ℕ} {next : Bench} → (number ≡ 0 → ⊥) → number ≡ callNo now call → next ≡ benchOf (afterCall now call) → next ≡ b
+  kept call some e h = h ∙ ap benchOf (refused-changes-nothing now call (λ z. some (e ∙ z))) ∙ sym (stands .is)
+
+  -- Every call gets an answer: for each there is a bench, with an answer, that its promise allows.
+  pub every-call-answers : (call : Call) → Callable call → Step b call (benchOf (afterCall now call))
+  every-call-answers = step-exists b now stands
+
+  -- Open: as reading, last the target (8). A refused open keeps the earlier bench.
+  module _ (bytes : List ℕ) (t : Target) (l : Limits) (next : Bench) where
+    pub open-numbers : (answer : Answer) → OpenPromise b bytes t l answer next → GivenExactly (answerNo answer) (openTable bytes t)
+    open-numbers answer h = given (opening bytes t l) (ap answerNo (h now stands .0))
+
+    pub open-refused : (w : Refusal) → OpenPromise b bytes t l (Refused w) next → next ≡ b
+    open-refused w h = kept (opening bytes t l) (not-zero w) (ap answerNo (h now stands .0)) (h now stands .1)
+
+  -- Edits: 13, 12, then 4, 5, 7 for a gate, 6 for an output, 8 for an entry; limits 13. A refused one leaves the bench, and gives its number only: no line is listed.
+  module _ (k kind x y : ℕ) (edit : Edit) (next : Bench) (h : GatePromise b k kind x y edit next) where
+    answer-is : edit .answer ≡ gateEditAnswer now k kind x y
+    answer-is = ap (λ (e : Edit). e .answer) (h now stands .0) ∙ gate-answer now k kind x y
+
+    pub replace-numbers : GivenExactly (answerNo (edit .answer)) (replaceTable now k kind x y)
+    replace-numbers = given (replacing k kind x y) (ap answerNo answer-is)
+
+    pub replace-refused : (w : Refusal) → edit .answer ≡ Refused w → (next ≡ b) × (edit ≡ noRework (Refused w))
+    replace-refused w e =
+        (kept (replacing k kind x y) (not-zero w) (ap answerNo (sym e ∙ answer-is)) (h now stands .1), h now stands .0 ∙ gate-refused now k kind x y w (sym answer-is ∙ e))
+
+  -- an edit that reworks no line
+  reworkless : (call : Call) (edit : Edit) (a : Answer) (next : Bench) → callNo now call ≡ answerNo a → (edit ≡ noRework a) × (next ≡ benchOf (afterCall now call))
+      → GivenExactly (answerNo (edit .answer)) (callTable now call) × ((w : Refusal) → edit .answer ≡ Refused w → (next ≡ b) × (edit ≡ noRework (Refused w)))
+  reworkless call edit a next e h =
+      let q = ap (λ (z : Edit). z .answer) (h .0) in
+      (given call (ap answerNo q ∙ sym e), λ w r. (kept call (not-zero w) (ap answerNo (sym r ∙ q) ∙ sym e) (h .1), h .0 ∙ ap noRework (sym q ∙ r)))
+
+  module _ (j line : ℕ) (edit : Edit) (next : Bench) (h : OutputPromise b j line edit next) where
+    pub point-numbers : GivenExactly (answerNo (edit .answer)) (pointTable now j line)
+    point-numbers = reworkless (pointing j line) edit (outputEditAnswer now j line) next refl (h now stands) .0
+
+    pub point-refused : (w : Refusal) → edit .answer ≡ Refused w → (next ≡ b) × (edit ≡ noRework (Refused w))
+    point-refused = reworkless (pointing j line) edit (outputEditAnswer now j line) next refl (h now stands) .1
+
+  module _ (i value : ℕ) (edit : Edit) (next : Bench) (h : EntryPromise b i value edit next) where
+    pub change-numbers : GivenExactly (answerNo (edit .answer)) (changeTable now i value)
+    change-numbers = reworkless (changing i value) edit (entryEditAnswer now i value) next refl (h now stands) .0
+
+    pub change-refused : (w : Refusal) → edit .answer ≡ Refused w → (next ≡ b) × (edit ≡ noRework (Refused w))
+    change-refused = reworkless (changing i value) edit (entryEditAnswer now i value) next refl (h now stands) .1
+
+  module _ (l : Limits) (edit : Edit) (next : Bench) (h : LimitsPromise b l edit next) where
+    pub limits-numbers : GivenExactly (answerNo (edit .answer)) (openOnly now)
+    limits-numbers = reworkless (limiting l) edit (limitsAnswer now) next refl (h now stands) .0
+
+    pub limits-refused : (w : Refusal) → edit .answer ≡ Refused w → (next ≡ b) × (edit ≡ noRework (Refused w))
+    limits-refused = reworkless (limiting l) edit (limitsAnswer now) next refl (h now stands) .1
+
+  -- Report: 13. Store: 13, 11. Neither takes a bench to change; a refused store leaves each byte of the room.
+  pub report-numbers : (r : Reported) → ReportPromise b r → GivenExactly (reportedNo r) (openOnly now)
+  report-numbers r h = given reporting (ap reportedNo (h now stands))
+
+  module _ (room out : List ℕ) where
+    pub store-numbers : (r : Writing) → StorePromise b room r out → GivenExactly (writingNo r) (storeTable now (length room))
+    store-numbers r h = given (storing room) (ap writingNo (h now stands .0))
+
+    pub store-refused : (w : Refusal) → StorePromise b room (NotWritten w) out → out ≡ room
+    store-refused w h = left-alone (storedOf now) (h now stands .0) (h now stands .1)
+
+  -- ---- The same where answers are numbers, as other languages call them: the number is given exactly when the table says so, and where it is not 0 the bench is as it was.
+  abbrev Numbered : Call → ℕ → Bench → Type 0
+  Numbered call number next = GivenExactly number (callTable now call) × ((number ≡ 0 → ⊥) → next ≡ b)
+
+  coded : (call : Call) (number : ℕ) (next : Bench) → number ≡ callNo now call → next ≡ benchOf (afterCall now call) → Numbered call number next
+  coded call number next e h = (given call e, λ some. kept call some e h)
+
+  pub open-numbered : (bytes : List ℕ) (t : Target) (l : Limits) (number : ℕ) (next : Bench) → OpenCode b bytes t l number next → Numbered (opening bytes t l) number next
+  open-numbered bytes t l number next h = coded (opening bytes t l) number next (h now stands .0) (h now stands .1)
+
+  pub replace-numbered : (k kind x y : ℕ) (edit : EditNumbers) (next : Bench) → GateCode b k kind x y edit next → Numbered (replacing k kind x y) (edit .refusal) next
+  replace-numbered k kind x y edit next h =
+      coded (replacing k kind x y) (edit .refusal) next (ap (λ (e : EditNumbers). e .refusal) (h now stands .0) ∙ ap answerNo (gate-answer now k kind x y)) (h now stands .1)
+
+  pub point-numbered : (j line : ℕ) (edit : EditNumbers) (next : Bench) → OutputCode b j line edit next → Numbered (pointing j line) (edit .refusal) next
+  point-numbered j line edit next h = coded (pointing j line) (edit .refusal) next (ap (λ (e : EditNumbers). e .refusal) (h now stands .0)) (h now stands .1)
+
+  pub change-numbered : (i value : ℕ) (edit : EditNumbers) (next : Bench) → EntryCode b i value edit next → Numbered (changing i value) (edit .refusal) next
+  change-numbered i value edit next h = coded (changing i value) (edit .refusal) next (ap (λ (e : EditNumbers). e .refusal) (h now stands .0)) (h now stands .1)
+
+  pub limits-numbered : (l : Limits) (edit : EditNumbers) (next : Bench) → LimitsCode b l edit next → Numbered (limiting l) (edit .refusal) next
+  limits-numbered l edit next h = coded (limiting l) (edit .refusal) next (ap (λ (e : EditNumbers). e .refusal) (h now stands .0)) (h now stands .1)
+
+  pub report-numbered : (r : ReportNumbers) → ReportCodePromise b r → GivenExactly (r .refusal) (openOnly now)
+  report-numbered r h = given reporting (ap (λ (e : ReportNumbers). e .refusal) (h now stands) ∙ reported-no (reported now))
+    where
+      reported-no : (r : Reported) → reportedCode r .refusal ≡ reportedNo r
+      reported-no (Given r) = refl
+      reported-no (NotGiven w) = refl
+
+  pub store-numbered : (room : List ℕ) (r : ℕ) (out : List ℕ) → StoreCode b room r out → NumberedRoom r (storeTable now (length room)) room out
+  unfolding storeAnswer
+  store-numbered room r out h =
+      numbered-room (storeAnswer now (length room)) (small now (stands .sound)) r (storeTable now (length room)) (storedOf now) room out (h now stands .0) (h now stands .1)
+      (call-numbers now (storing room))
+    where
+      small : (p : Present) → SoundPresent p → (k : ℕ) → storeAnswer p (length room) ≡ Written k → k < 65536
+      small nothing ok k e = let z : _≡_ {A = ℕ} 0 1 = cc in absurd (omega arith)
+      small (present s) ok k e =
+          let f = circuit-fits (isMatrix (s .target)) (s .circuit) (ok .circuit) .shape in
+          omega (arith, written-size (leb (length (stored (s .circuit))) (length room)) (length (stored (s .circuit))) k e, stored-length (s .circuit), f .g248, f .m32)

@@ -1,0 +1,273 @@
+-- The answers of the definition follow the tables: each law says that a number is given exactly when the table says so.
+use mathlib.Core.Path.{_≡_, refl, sym, ap, _∙_, subst}
+use mathlib.Core.Bool.{Bool, true, false, true≢false, cond, not, _&&_, _||_}
+use mathlib.Core.Logic.{_⊎_, inl, inr}
+use mathlib.Core.List.{List, [], _∷_, map}
+use Prim.Native.Nat.{ℕ, zero, suc, _+_, _*_, _^_, _≤_, _<_, _-_}
+use native.Mathlib.Nat.{add-zero}
+use native.Mathlib.Omega.{arith}
+use lib.Dec.{leb, ltb, eqb}
+use lib.ListN.{length, getD, drop}
+use lib.Seq.{getD-drop, drop-drop}
+use Rattle.circuit.specs.declared.Refusal.{Refusal}
+use Rattle.circuit.specs.declared.Refusal.the-variants.{Target as BadTarget, NoRoom, NotThere}
+use Rattle.circuit.specs.declared.Answer.{Answer}
+use Rattle.circuit.specs.declared.Answer.the-variants.{Done, Refused}
+use Rattle.circuit.specs.declared.Writing.the-variants.{Written, NotWritten}
+use Rattle.circuit.specs.Lines.{Listing, anyOf}
+use Rattle.circuit.specs.Stored.{stored, listingIn, outIn}
+use Rattle.circuit.specs.Reading.{refusalNo, answerNo, andThen, unless, shaped, secondFits, gateAnswer, outAnswer, gateRecord, outRecord, gateHere, outHere, answers, bodyAnswer, readAnswer}
+use Rattle.circuit.specs.Writing.{writingNo}
+use Rattle.circuit.proofs.Records.{records-length}
+use Rattle.distance.specs.declared.Refusal.the-variants.{Inputs, Lists, Mask, Depth}
+use Rattle.distance.specs.declared.Looked.{Looked}
+use Rattle.distance.specs.declared.Looked.the-variants.{Sound as Looks}
+use Rattle.distance.specs.Base.{lines, weight}
+use Rattle.distance.specs.Distance.{Gap, gates, never, distance}
+use Rattle.distance.specs.Query as query
+use Rattle.distance.specs.Query.{anyFrom, badLists, badMask, badDepth, refuse, lookAt, answered, answerOf}
+use Rattle.builder.specs.Call.{built, badRow, tooHeavy, refusal, roomAnswer, buildAnswer}
+use Rattle.bench.specs.Target.{Target, matrix, table, isMatrix, rowFits, entryFits, allOf, targetFits}
+use Rattle.bench.specs.State.{Present, nothing, present}
+use Rattle.bench.specs.Calls.{openAnswer, gateEditAnswer, outputEditAnswer, entryAnswer, entryEditAnswer, limitsAnswer, reported, storeAnswer}
+use Rattle.claims.proofs.Causes.{first, accepted, GivenExactly, Some, none-left, Tells, Fails, fails-as, fails-where-not, not-fails, not-tells, tells-or, tells-lt, tells-le, tells-eq, fails-and, fails-lt, fails-le, tells-some, chain, chain-on}
+use Rattle.claims.proofs.Tables.{OutOfRange, gateTable, BadRow, BrokenTarget, recordsTable, gateRecordTable, outRecordTable, bodyTable, readTable, openTable, replaceTable, pointTable, entryCauses, changeTable, openOnly, storeTable, buildTable, distanceTable, distanceNo, reportedNo}
+
+pub range-law : (n m g : ℕ) → Fails (shaped n m g) (OutOfRange n m g)
+unfolding shaped
+range-law n m g = fails-and (fails-le 1 n) (fails-and (fails-le n 8) (fails-and (fails-le 1 m) (fails-and (fails-le m 32) (fails-le g 248))))
+
+mark-law : (a b p q : ℕ) → Fails (eqb a p && eqb b q) ((a ≡ p → ⊥) ⊎ (b ≡ q → ⊥))
+mark-law a b p q = fails-and (fails-where-not (tells-eq a p)) (fails-where-not (tells-eq b q))
+
+second-law : (line kind b : ℕ) → Fails (secondFits line kind b) (((kind ≡ 6) × (b ≡ 0 → ⊥)) ⊎ ((kind ≡ 6 → ⊥) × (line ≤ b)))
+unfolding secondFits
+second-law line kind b = by (eqb kind 6) (tells-eq kind 6)
+  where
+    by : (t : Bool) → Tells t (kind ≡ 6) → Fails (cond t (eqb b 0) (ltb b line)) (((kind ≡ 6) × (b ≡ 0 → ⊥)) ⊎ ((kind ≡ 6 → ⊥) × (line ≤ b)))
+    by true x = fails-as (λ h. inl (x .holds refl, h)) back (fails-where-not (tells-eq b 0))
+      where
+        back : ((kind ≡ 6) × (b ≡ 0 → ⊥)) ⊎ ((kind ≡ 6 → ⊥) × (line ≤ b)) → b ≡ 0 → ⊥
+        back (inl h) = h .1
+        back (inr h) = absurd (h .0 (x .holds refl))
+    by false x = fails-as (λ h. inr (x .not-else refl, h)) back (fails-lt b line)
+      where
+        back : ((kind ≡ 6) × (b ≡ 0 → ⊥)) ⊎ ((kind ≡ 6 → ⊥) × (line ≤ b)) → line ≤ b
+        back (inl h) = absurd (x .not-else refl (h .0))
+        back (inr h) = h .1
+
+only-law : (only : Bool) (kind : ℕ) → Fails (not only || eqb kind 0) ((only ≡ true) × (kind ≡ 0 → ⊥))
+only-law true kind = fails-as (λ h. (refl, h)) (λ h. h .1) (fails-where-not (tells-eq kind 0))
+only-law false kind = record { holds = λ e. absurd (true≢false e); not-else = λ e h. true≢false (sym (h .0)) }
+
+row-law : (n row : ℕ) → Fails (rowFits n row) (BadRow n row)
+unfolding rowFits
+row-law n row = fails-as into back (fails-and (fails-lt 0 row) (fails-lt row (2 ^ n)))
+  where
+    into : (row ≤ 0) ⊎ (2 ^ n ≤ row) → BadRow n row
+    into (inl h) = inl (omega arith)
+    into (inr h) = inr h
+
+    back : BadRow n row → (row ≤ 0) ⊎ (2 ^ n ≤ row)
+    back (inl h) = inl (omega arith)
+    back (inr h) = inr h
+
+entry-law : (m entry : ℕ) → Fails (entryFits m entry) (2 ^ m ≤ entry)
+unfolding entryFits
+entry-law m entry = fails-lt entry (2 ^ m)
+
+all-law : (f : ℕ → Bool) {P : ℕ → Type 0} → ((x : ℕ) → Fails (f x) (P x)) → (xs : List ℕ) → Fails (allOf f xs) (Some P xs)
+unfolding allOf
+all-law f {P} each xs = subst (λ (t : Bool). Fails t (Some P xs)) (same xs) (not-fails (tells-some (λ x. not-tells (each x)) xs))
+  where
+    swap : (t u v : Bool) → not v ≡ u → not (not t || v) ≡ (t && u)
+    swap true u v e = e
+    swap false u v e = refl
+
+    same : (xs : List ℕ) → not (anyOf (map (λ (x : ℕ). not (f x)) xs)) ≡ allOf f xs
+    same [] = refl
+    same (x ∷ xs) = swap (f x) (allOf f xs) _ (same xs)
+
+pub target-law : (n m : ℕ) (t : Target) → Fails (targetFits n m t) (BrokenTarget n m t)
+unfolding targetFits
+target-law n m (matrix rows) = fails-and (fails-where-not (tells-eq (length rows) m)) (all-law (rowFits n) (row-law n) rows)
+target-law n m (table entries) =
+    fails-and (fails-le m 8) (fails-and (fails-where-not (tells-eq (length entries) (2 ^ n))) (all-law (entryFits m) (entry-law m) entries))
+
+-- a test in a chain of answers that goes on to another
+test : (w : Refusal) (a next : Answer) {t : Bool} {cause : Type 0} {rest : ℕ → Type 0} → Fails t cause → GivenExactly (answerNo (andThen a next)) rest
+    → GivenExactly (answerNo (andThen (unless t w a) next)) (first (refusalNo w) cause rest)
+test w a next x g = chain (λ t. answerNo (andThen (unless t w a) next)) x g
+
+pub done-last : (a : Answer) → andThen a Done ≡ a
+done-last Done = refl
+done-last (Refused w) = refl
+
+then-then : (a b c : Answer) → andThen a (andThen b c) ≡ andThen (andThen a b) c
+then-then Done b c = refl
+then-then (Refused w) b c = refl
+
+module _ {rest : ℕ → Type 0} (next : Answer) (g : GivenExactly (answerNo next) rest) where
+  gate-law : (only : Bool) (line kind a b : ℕ) → GivenExactly (answerNo (andThen (gateAnswer only line kind a b) next)) (gateTable only line kind a b rest)
+  unfolding gateAnswer
+  gate-law only line kind a b = test _ _ _ (fails-le kind 6) (test _ _ _ (fails-and (fails-lt a line) (second-law line kind b)) (test _ _ _ (only-law only kind) g))
+
+  out-law : (lines line : ℕ) → GivenExactly (answerNo (andThen (outAnswer lines line) next)) (first 6 (lines ≤ line) rest)
+  unfolding outAnswer
+  out-law lines line = test _ _ _ (fails-lt line lines) g
+
+  -- the record at a place
+  gate-record-law : (only : Bool) (s : List ℕ) (line at : ℕ) → GivenExactly (answerNo (andThen (gateHere only line (drop at s)) next)) (gateRecordTable only s line at rest)
+  unfolding gateRecord
+  gate-record-law only s line at =
+      let b : (i : ℕ) → getD s (at + i) 0 ≡ getD (drop at s) i 0 = λ i. sym (getD-drop at s i 0) in
+      let z : getD s at 0 ≡ getD (drop at s) 0 0 = ap (λ (k : ℕ). getD s k 0) (sym (add-zero at)) ∙ b 0 in
+      subst (λ (a : Answer). GivenExactly (answerNo (andThen a next)) (gateRecordTable only s line at rest))
+      (λ i. gateRecord only line (z i) (b 1 i) (b 2 i) (b 3 i) (b 4 i))
+      (test _ _ _ (mark-law (getD s at 0) (getD s (at + 1) 0) 71 84) (gate-law only line (getD s (at + 2) 0) (getD s (at + 3) 0) (getD s (at + 4) 0)))
+
+  out-record-law : (lines : ℕ) (s : List ℕ) (k at : ℕ) → GivenExactly (answerNo (andThen (outHere lines k (drop at s)) next)) (outRecordTable lines s k at rest)
+  unfolding outRecord
+  out-record-law count s k at =
+      let b : (i : ℕ) → getD s (at + i) 0 ≡ getD (drop at s) i 0 = λ i. sym (getD-drop at s i 0) in
+      let z : getD s at 0 ≡ getD (drop at s) 0 0 = ap (λ (k : ℕ). getD s k 0) (sym (add-zero at)) ∙ b 0 in
+      subst (λ (a : Answer). GivenExactly (answerNo (andThen a next)) (outRecordTable count s k at rest))
+      (λ i. outRecord count (z i) (b 1 i) (b 2 i))
+      (test _ _ _ (mark-law (getD s at 0) (getD s (at + 1) 0) 79 80) (out-law count (getD s (at + 2) 0)))
+
+-- record by record
+module _ (s : List ℕ) (here : ℕ → List ℕ → Answer) (size : ℕ) (one : ℕ → ℕ → (ℕ → Type 0) → ℕ → Type 0)
+    (law : (rest : ℕ → Type 0) (next : Answer) → GivenExactly (answerNo next) rest → (k at : ℕ) → GivenExactly (answerNo (andThen (here k (drop at s)) next)) (one k at rest)) where
+  records-law : {rest : ℕ → Type 0} (next : Answer) → GivenExactly (answerNo next) rest → (count k at : ℕ)
+      → GivenExactly (answerNo (andThen (answers here size k count (drop at s)) next)) (recordsTable one size k at count rest)
+  unfolding answers
+  records-law next g zero k at = g
+  records-law {rest} next g (suc count) k at =
+      let more = answers here size (suc k) count in
+      subst (λ (a : Answer). GivenExactly (answerNo a) (one k at (recordsTable one size (suc k) (at + size) count rest)))
+      (then-then (here k (drop at s)) (more (drop (at + size) s)) next
+      ∙ ap (λ (l : List ℕ). andThen (andThen (here k (drop at s)) (more l)) next) (sym (drop-drop size at s)))
+      (law (recordsTable one size (suc k) (at + size) count rest) (andThen (more (drop (at + size) s)) next) (records-law next g count (suc k) (at + size)) k at)
+
+module _ {rest : ℕ → Type 0} (next : Answer) (g : GivenExactly (answerNo next) rest) (only : Bool) (s : List ℕ) where
+  body-law : (n m g : ℕ) → GivenExactly (answerNo (andThen (bodyAnswer only s n m g) next)) (bodyTable only s n m g rest)
+  unfolding bodyAnswer
+  body-law n m k =
+      let gates = answers (gateHere only) 5 n k (drop 5 s) in
+      let outs = answers (outHere (n + k)) 3 0 m (drop (5 + 5 * k) s) in
+      let o = records-law s (outHere (n + k)) 3 (outRecordTable (n + k) s) (λ r x y. out-record-law {rest = r} x y (n + k) s) next g m 0 (5 + 5 * k) in
+      let q = records-law s (gateHere only) 5 (gateRecordTable only s) (λ r x y. gate-record-law {rest = r} x y only s) (andThen outs next) o k n 5 in
+      test _ _ _ (range-law n m k) (test _ _ _ (fails-where-not (tells-eq (length s) (5 + 5 * k + 3 * m)))
+      (subst (λ (a : Answer). GivenExactly (answerNo a) (recordsTable (gateRecordTable only s) 5 n 5 k (recordsTable (outRecordTable (n + k) s) 3 0 (5 + 5 * k) m rest)))
+      (then-then gates outs next) q))
+
+  pub read-law : GivenExactly (answerNo (andThen (readAnswer only s) next)) (readTable only s rest)
+  unfolding readAnswer
+  read-law = test _ _ _ (fails-le 5 (length s)) (test _ _ _ (mark-law (getD s 0 0) (getD s 1 0) 83 72) (body-law (getD s 2 0) (getD s 3 0) (getD s 4 0)))
+
+pub open-law : (s : List ℕ) (t : Target) → GivenExactly (answerNo (openAnswer s t)) (openTable s t)
+unfolding openAnswer listingIn
+open-law s t =
+    let m = records-length outIn 3 (getD s 3 0) (drop (5 + 5 * getD s 4 0) s) in
+    let last = chain (λ t. answerNo (unless t BadTarget Done)) (target-law (getD s 2 0) (getD s 3 0) t) none-left in
+    subst (λ (k : ℕ). GivenExactly (answerNo (andThen (readAnswer (isMatrix t) s) (unless (targetFits (getD s 2 0) k t) BadTarget Done))) (openTable s t)) (sym m)
+    (read-law (unless (targetFits (getD s 2 0) (getD s 3 0) t) BadTarget Done) last (isMatrix t) s)
+
+pub replace-law : (p : Present) (k kind a b : ℕ) → GivenExactly (answerNo (gateEditAnswer p k kind a b)) (replaceTable p k kind a b)
+unfolding gateEditAnswer
+replace-law nothing k kind a b = λ n. (sym, sym)
+replace-law (present s) k kind a b =
+    let only = isMatrix (s .target) in
+    let line = s .circuit .inputs + k in
+    chain (λ t. answerNo (unless t NotThere (gateAnswer only line kind a b))) (fails-lt k (length (s .circuit .gates)))
+    (subst (λ (x : Answer). GivenExactly (answerNo x) (gateTable only line kind a b accepted)) (done-last (gateAnswer only line kind a b))
+    (gate-law Done none-left only line kind a b))
+
+pub point-law : (p : Present) (j line : ℕ) → GivenExactly (answerNo (outputEditAnswer p j line)) (pointTable p j line)
+unfolding outputEditAnswer
+point-law nothing j line = λ n. (sym, sym)
+point-law (present s) j line =
+    let lines = s .circuit .inputs + length (s .circuit .gates) in
+    chain (λ t. answerNo (unless t NotThere (outAnswer lines line))) (fails-lt j (length (s .circuit .outs)))
+    (subst (λ (x : Answer). GivenExactly (answerNo x) (first 6 (lines ≤ line) accepted)) (done-last (outAnswer lines line)) (out-law Done none-left lines line))
+
+entries-law : (c : Listing) (t : Target) (i value : ℕ) → GivenExactly (answerNo (entryAnswer c t i value)) (entryCauses c t i value)
+entries-law c (matrix rows) i value =
+    chain (λ t. answerNo (unless t NotThere (unless (rowFits (c .inputs) value) BadTarget Done))) (fails-lt i (length (c .outs)))
+    (chain (λ t. answerNo (unless t BadTarget Done)) (row-law (c .inputs) value) none-left)
+entries-law c (table entries) i value =
+    chain (λ t. answerNo (unless t NotThere (unless (entryFits (length (c .outs)) value) BadTarget Done))) (fails-lt i (2 ^ c .inputs))
+    (chain (λ t. answerNo (unless t BadTarget Done)) (entry-law (length (c .outs)) value) none-left)
+
+pub change-law : (p : Present) (i value : ℕ) → GivenExactly (answerNo (entryEditAnswer p i value)) (changeTable p i value)
+unfolding entryEditAnswer
+change-law nothing i value = λ n. (sym, sym)
+change-law (present s) i value = entries-law (s .circuit) (s .target) i value
+
+pub limits-law : (p : Present) → GivenExactly (answerNo (limitsAnswer p)) (openOnly p)
+limits-law nothing = λ n. (sym, sym)
+limits-law (present s) = none-left
+
+pub report-law : (p : Present) → GivenExactly (reportedNo (reported p)) (openOnly p)
+report-law nothing = λ n. (sym, sym)
+report-law (present s) = none-left
+
+-- the room is looked at last (11)
+pub room-law : (size room : ℕ) → GivenExactly (writingNo (cond (leb size room) (Written size) (NotWritten NoRoom))) (first 11 (room < size) accepted)
+room-law size room = chain (λ t. writingNo (cond t (Written size) (NotWritten NoRoom))) (fails-le size room) none-left
+
+pub store-law : (p : Present) (room : ℕ) → GivenExactly (writingNo (storeAnswer p room)) (storeTable p room)
+unfolding storeAnswer
+store-law nothing room = λ n. (sym, sym)
+store-law (present s) room = room-law (length (stored (s .circuit))) room
+
+-- an answer, and then the room
+pub room-then : (a : Answer) (size room : ℕ) → answerNo (andThen a (unless (leb size room) NoRoom Done)) ≡ writingNo (roomAnswer a size room)
+room-then (Refused w) size room = refl
+room-then Done size room = by (leb size room)
+  where
+    by : (t : Bool) → answerNo (unless t NoRoom Done) ≡ writingNo (cond t (Written size) (NotWritten NoRoom))
+    by true = refl
+    by false = refl
+
+pub room-last : (size room : ℕ) → GivenExactly (answerNo (unless (leb size room) NoRoom Done)) (first 11 (room < size) accepted)
+room-last size room = chain (λ t. answerNo (unless t NoRoom Done)) (fails-le size room) none-left
+
+pub row-tells : (n t : ℕ) → Tells (badRow n t) (BadRow n t)
+row-tells n t = tells-or (tells-eq t 0) (tells-le (2 ^ n) t)
+
+pub heavy-tells : (n D t : ℕ) → Tells (tooHeavy n D t) (2 ^ D < weight n t)
+heavy-tells n D t = tells-lt (2 ^ D) (weight n t)
+
+pub build-law : (n : ℕ) (ts : List ℕ) (D room : ℕ) → GivenExactly (writingNo (buildAnswer n ts D room)) (buildTable n ts D room)
+unfolding buildAnswer refusal
+build-law n ts D room =
+    let size = length (stored (built n ts D)) in
+    subst (λ (no : ℕ). GivenExactly no (buildTable n ts D room)) (room-then (refusal n ts D) size room)
+    (test _ _ _ (range-law n (length ts) 0) (test _ _ _ (not-fails (tells-some (row-tells n) ts)) (test _ _ _ (fails-le D 15) (test _ _ _ (not-fails (tells-some (heavy-tells n D) ts)) (room-last size room)))))
+
+pub distance-law : (n : ℕ) (ms ds : List ℕ) (t D : ℕ) → GivenExactly (distanceNo (answerOf n ms ds t D)) (distanceTable n ms ds t D)
+unfolding answerOf lookAt
+distance-law n ms ds t D =
+    let r = answered (distance n (lines ms ds) t D) in
+    let ask : Looked → ℕ = λ x. distanceNo (query.unless x r) in
+    let e = tells-or (any-law 16 ds) (tells-lt 15 D) in
+    let c = tells-or (tells-or (any-law (2 ^ n) ms) (tells-eq t 0)) (tells-le (2 ^ n) t) in
+    let b = tells-or (tells-or (not-tells (fails-where-not (tells-eq (length ms) (length ds)))) (tells-eq (length ms) 0)) (tells-lt 256 (length ms)) in
+    let a = tells-or (tells-lt n 1) (tells-lt 8 n) in
+    chain-on (λ x. ask (refuse x Inputs (refuse (badLists ms ds) Lists (refuse (badMask n ms t) Mask (refuse (badDepth ds D) Depth Looks))))) a
+    (chain-on (λ x. ask (refuse x Lists (refuse (badMask n ms t) Mask (refuse (badDepth ds D) Depth Looks)))) b
+    (chain-on (λ x. ask (refuse x Mask (refuse (badDepth ds D) Depth Looks))) c
+    (chain-on (λ x. ask (refuse x Depth Looks)) e
+    (subst (λ (no : ℕ). GivenExactly no accepted) (sym (none-refused (distance n (lines ms ds) t D))) none-left))))
+  where
+    any-law : (b : ℕ) (xs : List ℕ) → Tells (anyFrom b xs) (Some (λ (x : ℕ). b ≤ x) xs)
+    any-law b xs = subst (λ (t : Bool). Tells t (Some (λ (x : ℕ). b ≤ x) xs)) (same xs) (tells-some (tells-le b) xs)
+      where
+        same : (xs : List ℕ) → anyOf (map (leb b) xs) ≡ anyFrom b xs
+        same [] = refl
+        same (x ∷ xs) = ap (λ (t : Bool). leb b x || t) (same xs)
+
+    none-refused : (x : Gap) → distanceNo (answered x) ≡ 0
+    none-refused (gates g) = refl
+    none-refused never = refl

@@ -1,0 +1,10 @@
+-- The three demands, the worked examples, and that each promise determines its result. A reader begins with FirstDemand, and has Tables beside it.
+pub mod FirstDemand
+pub mod SecondDemand
+pub mod ThirdDemand
+pub mod Examples
+pub mod Determined
+pub mod ToOutputs
+pub mod Tables
+pub mod Causes
+pub mod Following

@@ -1,0 +1,346 @@
+-- Demand 2: a circuit passes exactly when it gives the target's outputs on all inputs and keeps its limits; distances are truly the fewest XORs within the
+-- depth; the builder follows the rule, and refuses a sound matrix as too shallow exactly when no XOR program of that depth computes it.
+use mathlib.Core.Path.{_≡_, refl, sym, ap, ap₂, _∙_, subst}
+use mathlib.Core.Bool.{Bool, true, false, cond}
+use mathlib.Core.Logic.{_↔_, _⊎_, inl, inr, ⊎-elim}
+use mathlib.Core.List.{List, [], _∷_, _++_, map}
+use Prim.Native.Nat.{ℕ, zero, suc, _+_, _-_, _%_, _^_, _≤_, _<_, min}
+use native.Mathlib.Nat.{div-eq-of-lt, eq-or-lt-of-le}
+use native.Mathlib.Omega.{arith}
+use lib.Bits.{bitAnd, differ}
+use lib.Dec.{leb}
+use lib.ListN.{length, getD, take, drop, replicate}
+use lib.Pow.{pow-mono}
+use lib.Seq.{take-at, drop-at}
+use Rattle.circuit.specs.declared.Refusal.the-variants.{TooShallow, NoRoom}
+use Rattle.circuit.specs.declared.Answer.{Answer}
+use Rattle.circuit.specs.declared.Answer.the-variants.{Done, Refused}
+use Rattle.circuit.specs.declared.Writing.{Writing}
+use Rattle.circuit.specs.declared.Writing.the-variants.{Written, NotWritten}
+use Rattle.circuit.specs.Gate.{bit}
+use Rattle.circuit.specs.Lines as circuits
+use Rattle.circuit.specs.Lines.{Listing, gateAt, greatest, andStep, depthOf, andDepthOf, outputOn, anyOf}
+use Rattle.circuit.specs.Stored.{stored}
+use Rattle.circuit.specs.Reading.{shaped, readStored}
+use Rattle.circuit.specs.Reading.Outcome.{found}
+use Rattle.circuit.specs.Writing.{roomAfter}
+use Rattle.circuit.proofs.GateLaws.{bit-lt, bit-and}
+use Rattle.distance.specs.declared.Refusal.{Refusal as QueryRefusal}
+use Rattle.distance.specs.declared.Refusal.the-variants.{Inputs, Lists, Mask, Depth}
+use Rattle.distance.specs.declared.Looked.{Looked}
+use Rattle.distance.specs.declared.Looked.the-variants.{Sound as Looks, Unsound}
+use Rattle.distance.specs.declared.Answer.{Answer as Distance}
+use Rattle.distance.specs.declared.Answer.the-variants.{Gates, Never}
+use Rattle.distance.specs.Base.{Line, Gate, lines, inputs, run, weight, Small, Program, Fewest, SetOf, Smallest}
+use Rattle.distance.specs.Distance.{gates, never, distance}
+use Rattle.distance.specs.Query as query
+use Rattle.distance.specs.Query.{lookAt, answered, answerOf}
+use Rattle.distance.proofs.Theorems as distances
+use Rattle.builder.specs.Rule.{lowest, sum, taken, xorGate, circuitOf}
+use Rattle.builder.specs.Call.{within, built, badRow, tooHeavy, refusal, roomAnswer, buildAnswer, Builds}
+use Rattle.builder.specs.Matrix.{rowOn, Computes}
+use Rattle.builder.proofs.Refusals.{accepted, fit}
+use Rattle.builder.proofs.Promise.{built-inputs, built-outs}
+use Rattle.builder.proofs.Begin.{inputs-length}
+use Rattle.builder.proofs.Values.{lines-whole}
+use Rattle.builder.proofs.Solved.{sound-circuit}
+use Rattle.builder.proofs.Theorems as building
+use Rattle.bench.specs.declared.Bench.{Bench}
+use Rattle.bench.specs.declared.Place.{Place}
+use Rattle.bench.specs.declared.Verdict.the-variants.{Wrong, Pass}
+use Rattle.bench.specs.declared.Reported.{Reported}
+use Rattle.bench.specs.declared.Reported.the-variants.{Given}
+use Rattle.bench.specs.Target.{matrix, table, parity, wants}
+use Rattle.bench.specs.State.{Limits, State, present, reportOf, Sound}
+use Rattle.bench.specs.Held.{emptyBench}
+use Rattle.bench.specs.Calls.{openAnswer, reported, ReportPromise}
+use Rattle.bench.specs.Run.{Call, presentAfter, Runs, ByteLimits}
+use Rattle.bench.specs.Run.Call.{opening}
+use Rattle.bench.proofs.PassLaws.{Right, FirstWrong, pass-right, right-pass, wrong-first, first-wrong}
+use Rattle.bench.proofs.RunLaws.{report-after-calls, opens, opens-as}
+use Rattle.claims.proofs.Causes.{Some, Tells, tells-some, passes, silent}
+use Rattle.claims.proofs.Tables.{OutOfRange, BadRow, BrokenTarget, distanceNo}
+use Rattle.claims.proofs.Following.{range-law, target-law, row-tells, heavy-tells}
+
+-- ---- What a matrix asks of an output: the inputs that the row has, summed modulo 2.
+
+-- how many of the lowest k inputs are in the row and are 1 on input value x
+abbrev pub onesIn : ℕ → ℕ → ℕ → ℕ
+onesIn zero t x = 0
+onesIn (suc k) t x = onesIn k t x + min (bit k t) (bit k x)
+
+differ-sum : (a b : ℕ) → a < 2 → b < 2 → differ a b ≡ (a + b) % 2
+differ-sum zero zero p q = refl
+differ-sum zero (suc zero) p q = refl
+differ-sum (suc zero) zero p q = refl
+differ-sum (suc zero) (suc zero) p q = refl
+differ-sum zero (suc (suc b)) p q = absurd (omega arith)
+differ-sum (suc zero) (suc (suc b)) p q = absurd (omega arith)
+differ-sum (suc (suc a)) b p q = absurd (omega arith)
+
+parity-sum : (k t x : ℕ) → parity k (bitAnd t x) ≡ onesIn k t x % 2
+parity-sum zero t x = refl
+parity-sum (suc k) t x =
+    ap₂ differ (parity-sum k t x) (bit-and k t x)
+    ∙ differ-sum (onesIn k t x % 2) (min (bit k t) (bit k x)) (omega arith) (omega (arith, bit-lt k t))
+    ∙ omega arith
+
+pub matrix-wants : (rows : List ℕ) (x j : ℕ) → wants (matrix rows) x j ≡ onesIn 8 (getD rows j 0) x % 2
+matrix-wants rows x j = parity-sum 8 (getD rows j 0) x
+
+-- What a table asks: bit j of the entry.
+pub table-wants : (entries : List ℕ) (x j : ℕ) → wants (table entries) x j ≡ bit j (getD entries x 0)
+table-wants entries x j = refl
+
+-- ---- A circuit passes exactly when it gives the target's outputs on all inputs and keeps its limits on gates, depth and AND depth.
+
+module _ (s : State) where
+  pub passes-exactly : (reportOf s .verdict ≡ Pass) ↔ Right s
+  unfolding reportOf
+  passes-exactly = (pass-right s, right-pass s)
+
+  -- Wrong carries the smallest input value with a differing output and the smallest such output there.
+  pub wrong-exactly : (p : Place) → (reportOf s .verdict ≡ Wrong p) ↔ FirstWrong s p
+  unfolding reportOf
+  wrong-exactly p = (wrong-first s p, first-wrong s p)
+
+  -- That is the report which is given, after any calls, where this is present.
+  pub report-given : {b : Bench} {calls : List Call} → Runs emptyBench calls b → presentAfter calls ≡ present s → (r : Reported) → ReportPromise b r → r ≡ Given (reportOf s)
+  report-given run e r h = report-after-calls run h ∙ ap reported e
+
+-- ---- Distances are truly the fewest XORs within the depth.
+
+-- A base of lines whose masks are below 2^n, a mask t that is not 0, and a depth D.
+module _ (n : ℕ) (ls : List Line) (t D : ℕ) (small : Small n ls) (some : t ≡ 0 → ⊥) where
+  -- The distance is the fewest XOR gates, in any XOR program whose inputs are those lines at those depths, that produce t at depth D or less;
+  pub distance-fewest : (g : ℕ) → (distance n ls t D ≡ gates g) ↔ Fewest ls t D g
+  distance-fewest = distances.distance-is-fewest n ls t D small some
+
+  -- or there is none.
+  pub distance-none : (distance n ls t D ≡ never) ↔ ((h : ℕ) → Program ls h t D → ⊥)
+  distance-none = distances.none-is-no-program n ls t D small some
+
+  -- This equals the smallest size, less one, of a set of base lines whose masks sum to t and whose sum of 2^depth is at most 2^D.
+  pub distance-smallest-set : (g : ℕ) → (distance n ls t D ≡ gates g) ↔ Smallest ls t (2 ^ D) (suc g)
+  distance-smallest-set = distances.distance-is-smallest-set n ls t D small some
+
+  pub distance-no-set : (distance n ls t D ≡ never) ↔ ((k : ℕ) → SetOf ls k t (2 ^ D) → ⊥)
+  distance-no-set = distances.none-is-no-set n ls t D small some
+
+-- What a query answers, where it is not refused.
+module _ (n : ℕ) (ms ds : List ℕ) (t D : ℕ) (r : Distance) (meets : r ≡ answerOf n ms ds t D) (fine : distanceNo r ≡ 0) where
+  looks : lookAt n ms ds t D ≡ Looks
+  unfolding answerOf
+  looks = by (lookAt n ms ds t D) (sym (ap distanceNo meets) ∙ fine)
+    where
+      numbered : (w : QueryRefusal) → query.refusalNo w ≡ 0 → ⊥
+      numbered Inputs e = omega arith
+      numbered Lists e = omega arith
+      numbered Mask e = omega arith
+      numbered Depth e = omega arith
+
+      by : (x : Looked) → distanceNo (query.unless x (answered (distance n (lines ms ds) t D))) ≡ 0 → x ≡ Looks
+      by Looks e = refl
+      by (Unsound w) e = absurd (numbered w e)
+
+  pub query-fewest : (g : ℕ) → (r ≡ Gates g) ↔ Fewest (lines ms ds) t D g
+  query-fewest g = let q = distances.query-gates n ms ds t D looks g in (λ e. q .0 (sym meets ∙ e), λ f. meets ∙ q .1 f)
+
+  pub query-none : (r ≡ Never) ↔ ((h : ℕ) → Program (lines ms ds) h t D → ⊥)
+  query-none = let q = distances.query-never n ms ds t D looks in (λ e. q .0 (sym meets ∙ e), λ f. meets ∙ q .1 f)
+
+-- ---- The builder.
+
+-- what a program built for a matrix within depth D is
+pub record BuiltRight (n : ℕ) (ts : List ℕ) (D : ℕ) (c : Listing) : Type 0 where
+  -- it has the matrix's inputs and outputs,
+  pub inputs-are : c .inputs ≡ n
+  pub outputs-are : length (c .outs) ≡ length ts
+  -- XOR gates only,
+  pub only-xor : (k : ℕ) → gateAt c k .kind ≡ 0
+  -- computes the matrix on all inputs,
+  pub computes : (x j : ℕ) → j < length ts → outputOn c x j ≡ onesIn n (getD ts j 0) x % 2
+  -- has depth at most D and AND depth 0,
+  pub shallow : depthOf c ≤ D
+  pub linear : andDepthOf c ≡ 0
+  -- and has at most the sum over rows of (weight - 1) gates, 224 at most.
+  pub few : length (c .gates) ≤ sum (map (λ (t : ℕ). weight n t - 1) ts)
+  pub fits : length (c .gates) ≤ 224
+
+row-sum : (n t x : ℕ) → rowOn n t x ≡ onesIn n t x % 2
+row-sum zero t x = refl
+row-sum (suc n) t x =
+    ap₂ differ (bit-and n t x) (row-sum n t x)
+    ∙ differ-sum (min (bit n t) (bit n x)) (onesIn n t x % 2) (omega (arith, bit-lt n t)) (omega arith)
+    ∙ omega arith
+
+module _ (n : ℕ) (ts : List ℕ) (D : ℕ) where
+  -- The builder follows the published greedy rule: its gates are those that the rule takes, and each output names its row's lowest line within D.
+  pub follows-rule : built n ts D ≡ record { inputs = n; gates = map xorGate (taken (inputs n) (within D ts)); outs = map (lowest (run (inputs n) (taken (inputs n) (within D ts)))) (within D ts) }
+  unfolding built circuitOf
+  follows-rule = refl
+
+  module _ (ok : refusal n ts D ≡ Done) where
+    no-and-depth : andDepthOf (built n ts D) ≡ 0
+    unfolding built circuitOf
+    no-and-depth =
+        ap greatest (ap (λ (l : List ℕ). circuits.lines andStep 0 l (gateAt (circuitOf n (inputs n) (within D ts))) (length (map xorGate (taken (inputs n) (within D ts))))) (flat n)
+        ∙ lines-whole (λ (l : Line). 0) andStep 0 refl (λ k g x y. refl) (inputs n) (taken (inputs n) (within D ts)))
+        ∙ zeros (run (inputs n) (taken (inputs n) (within D ts)))
+      where
+        zeros : (ls : List Line) → greatest (map (λ (l : Line). 0) ls) ≡ 0
+        zeros [] = refl
+        zeros (l ∷ ls) = omega (arith, zeros ls)
+
+        flat : (n : ℕ) → replicate {A = ℕ} n 0 ≡ map (λ (l : Line). 0) (inputs n)
+        flat n = ap (λ (k : ℕ). replicate {A = ℕ} k 0) (sym (inputs-length n)) ∙ level (inputs n)
+          where
+            level : (ls : List Line) → replicate {A = ℕ} (length ls) 0 ≡ map (λ (l : Line). 0) ls
+            level [] = refl
+            level (l ∷ ls) = ap (λ (xs : List ℕ). 0 ∷ xs) (level ls)
+
+    pub built-right : BuiltRight n ts D (built n ts D)
+    built-right =
+        record {
+          inputs-are = built-inputs n ts D;
+          outputs-are = built-outs n ts D;
+          only-xor = building.only-xor n ts D ok;
+          computes = λ x j h. building.computes-matrix n ts D ok x j h ∙ row-sum n (getD ts j 0) x;
+          shallow = building.depth-within n ts D ok;
+          linear = no-and-depth;
+          few = building.few-gates n ts D ok;
+          fits = building.it-fits n ts D ok;
+        }
+
+-- What `build` writes, where it writes: the stored bytes of that program first in the lent room; the rest stays.
+module _ (n : ℕ) (ts : List ℕ) (D : ℕ) (room : List ℕ) (k : ℕ) (out : List ℕ) (h : Builds n ts D room (Written k) out) where
+  abbrev bytes : List ℕ
+  bytes = stored (built n ts D)
+
+  nothing-refused : refusal n ts D ≡ Done
+  unfolding buildAnswer
+  nothing-refused = by (refusal n ts D) (h .answer)
+    where
+      by : (a : Answer) → Written k ≡ roomAnswer a (length bytes) (length room) → a ≡ Done
+      by Done e = refl
+      by (Refused w) e = let z : _≡_ {A = ℕ} 0 1 = cc in absurd (omega arith)
+
+  size-is : length bytes ≡ k
+  unfolding buildAnswer
+  size-is = by (leb (length bytes) (length room)) (h .answer ∙ ap (λ (a : Answer). roomAnswer a (length bytes) (length room)) nothing-refused)
+    where
+      by : (t : Bool) → Written k ≡ cond t (Written (length bytes)) (NotWritten NoRoom) → length bytes ≡ k
+      by true e = cc
+      by false e = let z : _≡_ {A = ℕ} 0 1 = cc in absurd (omega arith)
+
+  room-is : out ≡ bytes ++ drop (length bytes) room
+  room-is = h .bytes ∙ sym (ap (λ (a : Writing). roomAfter a bytes room) (h .answer))
+
+  pub build-writes : (take k out ≡ stored (built n ts D)) × (drop k out ≡ drop k room)
+  build-writes = (
+    ap (take k) room-is ∙ take-at bytes (drop (length bytes) room) k size-is,
+    ap (drop k) room-is ∙ drop-at bytes (drop (length bytes) room) k size-is ∙ ap (λ (j : ℕ). drop j room) size-is,
+  )
+
+  -- They read back as the program, which computes the matrix within the depth.
+  pub build-computes : (readStored true (take k out) ≡ found (built n ts D)) × BuiltRight n ts D (built n ts D)
+  build-computes =
+      (ap (readStored true) (build-writes .0) ∙ building.reads-back n ts D nothing-refused, built-right n ts D nothing-refused)
+
+-- A sound matrix: n and the number of rows in range, no row that is 0 or reaches 2^n; and D at most 15.
+module _ (n : ℕ) (ts : List ℕ) (D : ℕ) (range : OutOfRange n (length ts) 0 → ⊥) (rows : Some (BadRow n) ts → ⊥) (depth : D ≤ 15)
+    (room : List ℕ) (r : Writing) (out : List ℕ) (h : Builds n ts D room r out) where
+  shape-fits : shaped n (length ts) 0 ≡ true
+  shape-fits = passes (range-law n (length ts) 0) range
+
+  rows-fit : anyOf (map (badRow n) ts) ≡ false
+  rows-fit = silent (tells-some (row-tells n) ts) rows
+
+  answered-so : (r ≡ NotWritten TooShallow) ↔ (refusal n ts D ≡ Refused TooShallow)
+  unfolding buildAnswer
+  answered-so = (
+    λ e. by (refusal n ts D) (sym (h .answer) ∙ e),
+    λ e. h .answer ∙ ap (λ (a : Answer). roomAnswer a (length (stored (built n ts D))) (length room)) e,
+  )
+    where
+      written : (t : Bool) (size : ℕ) → cond t (Written size) (NotWritten NoRoom) ≡ NotWritten TooShallow → ⊥
+      written true size e = let z : _≡_ {A = ℕ} 0 1 = cc in omega arith
+      written false size e = let z : _≡_ {A = ℕ} 0 1 = cc in omega arith
+
+      by : (a : Answer) → roomAnswer a (length (stored (built n ts D))) (length room) ≡ NotWritten TooShallow → a ≡ Refused TooShallow
+      by Done e = absurd (written (leb (length (stored (built n ts D))) (length room)) (length (stored (built n ts D))) e)
+      by (Refused w) e = let z : w ≡ TooShallow = cc in ap Refused z
+
+  -- It is refused as too shallow exactly when no XOR program of that depth computes it,
+  pub too-shallow-no-program : (r ≡ NotWritten TooShallow) ↔ ((gs : List Gate) → Computes n ts D gs → ⊥)
+  too-shallow-no-program =
+      let q = building.too-shallow-is-no-program n ts D shape-fits rows-fit depth in
+      (λ e. q .0 (answered-so .0 e), λ f. answered-so .1 (q .1 f))
+
+  -- which is the same as a row's weight exceeding 2^D.
+  pub too-shallow-heavy : (r ≡ NotWritten TooShallow) ↔ Some (λ (t : ℕ). 2 ^ D < weight n t) ts
+  too-shallow-heavy =
+      let q = building.too-shallow-is-heavy n ts D shape-fits rows-fit depth in
+      let t = tells-some (heavy-tells n D) ts in
+      (λ e. t .holds (q .0 (answered-so .0 e)), λ s. answered-so .1 (q .1 (some-true s)))
+    where
+      some-true : Some (λ (t : ℕ). 2 ^ D < weight n t) ts → anyOf (map (tooHeavy n D) ts) ≡ true
+      some-true s = by (anyOf (map (tooHeavy n D) ts)) (tells-some (heavy-tells n D) ts)
+        where
+          by : (u : Bool) → Tells u (Some (λ (t : ℕ). 2 ^ D < weight n t) ts) → u ≡ true
+          by true x = refl
+          by false x = absurd (x .not-else refl s)
+
+-- ---- The builder and the bench agree: what was built, opened with its matrix, passes wherever the limits allow its gates and depth.
+
+bits-above : (k t : ℕ) → t < 2 ^ k → bit k t ≡ 0
+bits-above k t h = ap (λ (u : ℕ). u % 2) (div-eq-of-lt h)
+
+ones-stop : (k n t x : ℕ) → n ≤ k → t < 2 ^ n → onesIn k t x ≡ onesIn n t x
+ones-stop zero n t x h b = ap (λ (j : ℕ). onesIn j t x) (let z : 0 ≡ n = omega arith in z)
+ones-stop (suc k) n t x h b =
+    ⊎-elim
+    (λ e. ap (λ (j : ℕ). onesIn j t x) (sym e))
+    (λ l. let p : n ≤ k = omega arith in let z = bits-above k t (omega (arith, pow-mono p)) in let q = ones-stop k n t x p b in omega (arith, q, z))
+    (eq-or-lt-of-le {n = n} {m = suc k} h)
+
+module _ (n : ℕ) (ts : List ℕ) (D : ℕ) (ok : refusal n ts D ≡ Done) (l : Limits) (small : ByteLimits l) where
+  abbrev opened : State
+  opened = record { circuit = built n ts D; target = matrix ts; limits = l }
+
+  sound-opened : Sound opened
+  sound-opened =
+      let a = accepted n ts D ok in
+      record {
+        circuit = sound-circuit n ts D a;
+        target = passes (target-law (built n ts D .inputs) (length (built n ts D .outs)) (matrix ts)) unbroken;
+        gates = small .gates;
+        depth = small .depth;
+        andDepth = small .andDepth;
+      }
+    where
+      unbroken : BrokenTarget (built n ts D .inputs) (length (built n ts D .outs)) (matrix ts) → ⊥
+      unbroken (inl e) = e (sym (built-outs n ts D))
+      unbroken (inr s) = tells-some (row-tells n) ts .not-else (accepted n ts D ok .rows) (subst (λ (k : ℕ). Some (BadRow k) ts) (built-inputs n ts D) s)
+
+  pub built-opens : openAnswer (stored (built n ts D)) (matrix ts) ≡ Done
+  built-opens = opens opened sound-opened
+
+  pub built-passes : length (built n ts D .gates) ≤ l .gates → depthOf (built n ts D) ≤ l .depth
+      → {b : Bench} → Runs emptyBench (opening (stored (built n ts D)) (matrix ts) l ∷ []) b → (r : Reported) → ReportPromise b r
+      → (r ≡ Given (reportOf opened)) × (reportOf opened .verdict ≡ Pass)
+  built-passes g d run r h = (report-given opened run (opens-as opened sound-opened) r h, passes-exactly opened .1 right)
+    where
+      right : Right opened
+      right =
+          let f = fit n ts (accepted n ts D ok .shape) (accepted n ts D ok .rows) in
+          let b = built-right n ts D ok in
+          record {
+            equal = λ x j hx hj.
+                b .computes x j (subst (λ (m : ℕ). j < m) (built-outs n ts D) hj)
+                ∙ ap (λ (k : ℕ). k % 2) (sym (ones-stop 8 n (getD ts j 0) x (f .inputs) (f .below j)))
+                ∙ sym (parity-sum 8 (getD ts j 0) x);
+            gates = g;
+            depth = d;
+            andDepth = omega (arith, b .linear);
+          }

@@ -1,0 +1,155 @@
+-- "Numbers given back" and "Order" of the definition as tables: for each call its causes of refusal, in plain numbers and in their order.
+use mathlib.Core.Path.{_≡_}
+use mathlib.Core.Bool.{Bool, true}
+use mathlib.Core.Logic.{_⊎_}
+use mathlib.Core.List.{List}
+use Prim.Native.Nat.{ℕ, zero, suc, _+_, _*_, _^_, _≤_, _<_}
+use lib.ListN.{length, getD}
+use Rattle.circuit.specs.Lines.{Listing}
+use Rattle.circuit.specs.Stored.{stored}
+use Rattle.circuit.specs.Reading.{refusalNo, answerNo}
+use Rattle.circuit.specs.Writing.{writingNo}
+use Rattle.distance.specs.declared.Answer.{Answer as Distance}
+use Rattle.distance.specs.declared.Answer.the-variants.{Gates, Never, Refused as NoDistance}
+use Rattle.distance.specs.Base.{weight}
+use Rattle.distance.specs.Query as query
+use Rattle.builder.specs.Call.{built}
+use Rattle.bench.specs.declared.Reported.{Reported}
+use Rattle.bench.specs.declared.Reported.the-variants.{Given, NotGiven}
+use Rattle.bench.specs.Target.{Target, matrix, table, isMatrix}
+use Rattle.bench.specs.State.{State, Present, nothing, present}
+use Rattle.bench.specs.Calls.{openAnswer, gateEditAnswer, outputEditAnswer, entryEditAnswer, limitsAnswer, reported, storeAnswer}
+use Rattle.bench.specs.Run.{Call}
+use Rattle.bench.specs.Run.Call.{opening, replacing, pointing, changing, limiting, reporting, storing}
+use Rattle.claims.proofs.Causes.{first, accepted, Some}
+
+-- `first no cause rest` gives `no` where the cause is there, and goes on to the rest of the table where it is not.
+
+-- 1: n, m or g outside its range
+abbrev pub OutOfRange : ℕ → ℕ → ℕ → Type 0
+OutOfRange n m g = (n < 1) ⊎ (8 < n) ⊎ (m < 1) ⊎ (32 < m) ⊎ (248 < g)
+
+-- 3: a mark is wrong
+abbrev pub WrongMark : List ℕ → ℕ → ℕ → ℕ → Type 0
+WrongMark s at p q = (getD s at 0 ≡ p → ⊥) ⊎ (getD s (at + 1) 0 ≡ q → ⊥)
+
+-- 5: operand not below its line, or NOT with second operand not 0
+abbrev pub BadOperand : ℕ → ℕ → ℕ → ℕ → Type 0
+BadOperand line kind a b = (line ≤ a) ⊎ ((kind ≡ 6) × (b ≡ 0 → ⊥)) ⊎ ((kind ≡ 6 → ⊥) × (line ≤ b))
+
+-- 4, 5, and 7: gate other than XOR under a matrix
+abbrev pub gateTable : Bool → ℕ → ℕ → ℕ → ℕ → (ℕ → Type 0) → ℕ → Type 0
+gateTable only line kind a b rest = first 4 (6 < kind) (first 5 (BadOperand line kind a b) (first 7 ((only ≡ true) × (kind ≡ 0 → ⊥)) rest))
+
+-- 8: a row is 0 or reaches 2^n; an entry reaches 2^m; target length
+abbrev pub BadRow : ℕ → ℕ → Type 0
+BadRow n row = (row ≡ 0) ⊎ (2 ^ n ≤ row)
+
+abbrev pub BrokenTarget : ℕ → ℕ → Target → Type 0
+BrokenTarget n m (matrix rows) = (length rows ≡ m → ⊥) ⊎ Some (BadRow n) rows
+BrokenTarget n m (table entries) = (8 < m) ⊎ (length entries ≡ 2 ^ n → ⊥) ⊎ Some (λ (e : ℕ). 2 ^ m ≤ e) entries
+
+-- records of one size, the first of them number k at a place, one after the other
+abbrev pub recordsTable : (ℕ → ℕ → (ℕ → Type 0) → ℕ → Type 0) → ℕ → ℕ → ℕ → ℕ → (ℕ → Type 0) → ℕ → Type 0
+recordsTable one size k at zero rest = rest
+recordsTable one size k at (suc count) rest = one k at (recordsTable one size (suc k) (at + size) count rest)
+
+-- a gate's record at a place: `GT` (3), then the gate
+abbrev pub gateRecordTable : Bool → List ℕ → ℕ → ℕ → (ℕ → Type 0) → ℕ → Type 0
+gateRecordTable only s line at rest = first 3 (WrongMark s at 71 84) (gateTable only line (getD s (at + 2) 0) (getD s (at + 3) 0) (getD s (at + 4) 0) rest)
+
+-- an output's record: `OP` (3), then 6: output names no line
+abbrev pub outRecordTable : ℕ → List ℕ → ℕ → ℕ → (ℕ → Type 0) → ℕ → Type 0
+outRecordTable lines s k at rest = first 3 (WrongMark s at 79 80) (first 6 (lines ≤ getD s (at + 2) 0) rest)
+
+-- reading: fewer than 5 bytes (2), `SH` (3), shape (1), whole length (2), then record by record
+abbrev pub bodyTable : Bool → List ℕ → ℕ → ℕ → ℕ → (ℕ → Type 0) → ℕ → Type 0
+bodyTable only s n m g rest =
+    first 1 (OutOfRange n m g)
+    (first 2 (length s ≡ 5 + 5 * g + 3 * m → ⊥) (recordsTable (gateRecordTable only s) 5 n 5 g (recordsTable (outRecordTable (n + g) s) 3 0 (5 + 5 * g) m rest)))
+
+abbrev pub readTable : Bool → List ℕ → (ℕ → Type 0) → ℕ → Type 0
+readTable only s rest =
+    first 2 (length s < 5) (first 3 (WrongMark s 0 83 72) (bodyTable only s (getD s 2 0) (getD s 3 0) (getD s 4 0) rest))
+
+-- open: as reading, last the target (8)
+abbrev pub openTable : List ℕ → Target → ℕ → Type 0
+openTable s t = readTable (isMatrix t) s (first 8 (BrokenTarget (getD s 2 0) (getD s 3 0) t) accepted)
+
+-- edits, report, limits and store: nothing open (13), and then as the state says
+abbrev pub whenOpen : Present → (State → ℕ → Type 0) → ℕ → Type 0
+whenOpen nothing rest n = n ≡ 13
+whenOpen (present s) rest n = rest s n
+
+-- replace a gate: 12, then 4, 5, 7
+abbrev pub replaceTable : Present → ℕ → ℕ → ℕ → ℕ → ℕ → Type 0
+replaceTable p k kind a b =
+    whenOpen p (λ s. first 12 (length (s .circuit .gates) ≤ k) (gateTable (isMatrix (s .target)) (s .circuit .inputs + k) kind a b accepted))
+
+-- point an output: 12, then 6
+abbrev pub pointTable : Present → ℕ → ℕ → ℕ → Type 0
+pointTable p j line =
+    whenOpen p (λ s. first 12 (length (s .circuit .outs) ≤ j) (first 6 (s .circuit .inputs + length (s .circuit .gates) ≤ line) accepted))
+
+-- change an entry: 12, then 8
+abbrev pub entryCauses : Listing → Target → ℕ → ℕ → ℕ → Type 0
+entryCauses c (matrix rows) i value = first 12 (length (c .outs) ≤ i) (first 8 (BadRow (c .inputs) value) accepted)
+entryCauses c (table entries) i value = first 12 (2 ^ c .inputs ≤ i) (first 8 (2 ^ length (c .outs) ≤ value) accepted)
+
+abbrev pub changeTable : Present → ℕ → ℕ → ℕ → Type 0
+changeTable p i value = whenOpen p (λ s. entryCauses (s .circuit) (s .target) i value)
+
+-- report and limits: 13 alone
+abbrev pub openOnly : Present → ℕ → Type 0
+openOnly p = whenOpen p (λ s. accepted)
+
+-- store: 13, 11
+abbrev pub storeTable : Present → ℕ → ℕ → Type 0
+storeTable p room = whenOpen p (λ s. first 11 (room < length (stored (s .circuit))) accepted)
+
+-- build: 1, 8, 9, 10, 11
+abbrev pub buildTable : ℕ → List ℕ → ℕ → ℕ → ℕ → Type 0
+buildTable n ts D room =
+    first 1 (OutOfRange n (length ts) 0)
+    (first 8 (Some (BadRow n) ts)
+    (first 9 (15 < D)
+    (first 10 (Some (λ (t : ℕ). 2 ^ D < weight n t) ts)
+    (first 11 (room < length (stored (built n ts D))) accepted))))
+
+-- distance: n (1); mask and depth lists unequal, empty or over 256 (2); a base mask of 2^n or more, target 0 or 2^n or more (8); a depth or D over 15 (9)
+abbrev pub distanceTable : ℕ → List ℕ → List ℕ → ℕ → ℕ → ℕ → Type 0
+distanceTable n ms ds t D =
+    first 1 ((n < 1) ⊎ (8 < n))
+    (first 2 (((length ms ≡ length ds → ⊥) ⊎ (length ms ≡ 0)) ⊎ (256 < length ms))
+    (first 8 ((Some (λ (m : ℕ). 2 ^ n ≤ m) ms ⊎ (t ≡ 0)) ⊎ (2 ^ n ≤ t))
+    (first 9 (Some (λ (d : ℕ). 16 ≤ d) ds ⊎ (15 < D)) accepted)))
+
+-- the number of a query's answer: a distance, or that there is none, is not a refusal
+abbrev pub distanceNo : Distance → ℕ
+distanceNo (Gates g) = 0
+distanceNo Never = 0
+distanceNo (NoDistance why) = query.refusalNo why
+
+-- the number of a report's answer
+abbrev pub reportedNo : Reported → ℕ
+reportedNo (Given r) = 0
+reportedNo (NotGiven w) = refusalNo w
+
+-- the number of a call's answer: 0 where nothing is refused
+abbrev pub callNo : Present → Call → ℕ
+callNo p (opening bytes t l) = answerNo (openAnswer bytes t)
+callNo p (replacing k kind a b) = answerNo (gateEditAnswer p k kind a b)
+callNo p (pointing j line) = answerNo (outputEditAnswer p j line)
+callNo p (changing i value) = answerNo (entryEditAnswer p i value)
+callNo p (limiting l) = answerNo (limitsAnswer p)
+callNo p reporting = reportedNo (reported p)
+callNo p (storing room) = writingNo (storeAnswer p (length room))
+
+abbrev pub callTable : Present → Call → ℕ → Type 0
+callTable p (opening bytes t l) = openTable bytes t
+callTable p (replacing k kind a b) = replaceTable p k kind a b
+callTable p (pointing j line) = pointTable p j line
+callTable p (changing i value) = changeTable p i value
+callTable p (limiting l) = openOnly p
+callTable p reporting = openOnly p
+callTable p (storing room) = storeTable p (length room)

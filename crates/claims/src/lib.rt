@@ -1,0 +1,1 @@
+// No code: proofs/ restates, for a careful reader, what the crates below prove of the three demands.
