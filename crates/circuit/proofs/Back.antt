@@ -20,12 +20,12 @@ use Rattle.circuit.specs.Lines.{upto}
 use Rattle.circuit.specs.Stored.{gateOf, outOf, listed}
 use Rattle.circuit.specs.Writing.{Wrote, Padded, Tidy}
 
-upto-same : {A : Type 0} (f g : ℕ → A) (j : ℕ) → ((k : ℕ) → k < j → f k ≡ g k) → upto f j ≡ upto g j
+pub upto-same : {A : Type 0} (f g : ℕ → A) (j : ℕ) → ((k : ℕ) → k < j → f k ≡ g k) → upto f j ≡ upto g j
 unfolding upto
 upto-same f g zero h = refl
 upto-same f g (suc j) h = let a = upto-same f g j (λ k q. h k (omega arith)) in let b = h j (omega arith) in λ i. a i ++ (b i ∷ [])
 
-upto-take : {A : Type 0} (l : List A) (d : A) (j : ℕ) → j ≤ length l → upto (λ (k : ℕ). getD l k d) j ≡ take j l
+pub upto-take : {A : Type 0} (l : List A) (d : A) (j : ℕ) → j ≤ length l → upto (λ (k : ℕ). getD l k d) j ≡ take j l
 unfolding upto
 upto-take l d zero h = refl
 upto-take {A} l d (suc j) h = ap (λ (p : List A). p ++ (getD l j d ∷ [])) (upto-take l d j (omega arith)) ∙ sym (take-suc l j d (omega arith))
@@ -64,7 +64,7 @@ pub wrote-unique : (c : Circuit) (R : List ℕ) (r s : Writing) (p q : List ℕ)
 wrote-unique c R r s p q a b = (a .answer ∙ sym (b .answer), a .bytes ∙ sym (b .bytes))
 
 -- the other way, for a struct with zeros past the end
-map-upto : {A B : Type 0} (f : A → B) (h : ℕ → A) (j : ℕ) → map f (upto h j) ≡ upto (λ (k : ℕ). f (h k)) j
+pub map-upto : {A B : Type 0} (f : A → B) (h : ℕ → A) (j : ℕ) → map f (upto h j) ≡ upto (λ (k : ℕ). f (h k)) j
 unfolding upto
 map-upto f h zero = refl
 map-upto {B} f h (suc j) = map-snoc f (upto h j) (h j) ∙ ap (λ (l : List B). l ++ (f (h j) ∷ [])) (map-upto f h j) where

@@ -11,9 +11,10 @@ use lib.Dec.{T, eqb, eqb→eq}
 use lib.ListN.{length, getD, take, List·getD-map}
 use Rattle.circuit.specs.declared.Words.{Words}
 use Rattle.circuit.specs.Gate.{Kind, bit, kindOf, truth, wordOf, wordsOf, noWords, valueIn}
-use Rattle.circuit.specs.Lines.{Gate, lines, upto, inputsOn, inputWords, truthStep, wordsStep, values, words}
+use Rattle.circuit.specs.Lines.{Gate, lines, inputsOn, inputWords, truthStep, wordsStep, values, words}
 use Rattle.circuit.proofs.GateLaws.{bit-word}
 use Rattle.circuit.proofs.LineLaws.{lines-map}
+use Rattle.circuit.proofs.Back.{upto-same, upto-take, map-upto}
 
 -- ---- a test that holds below n, computed, holds at each
 
@@ -33,32 +34,26 @@ all-at p (suc n) t i h =
       subst-at : i ≡ n → T (p n) → T (p i)
       subst-at e t = rw e t
 
-same : List ℕ → List ℕ → Bool
-same [] [] = true
-same [] (y ∷ l) = false
-same (x ∷ k) [] = false
-same (x ∷ k) (y ∷ l) = eqb x y && same k l
-
-same-eq : (k l : List ℕ) → T (same k l) → k ≡ l
-unfolding same
-same-eq [] [] t = refl
-same-eq [] (y ∷ l) t = absurd t
-same-eq (x ∷ k) [] t = absurd t
-same-eq (x ∷ k) (y ∷ l) t = let s = both (eqb x y) (same k l) t in ap₂ (λ (a : ℕ) (b : List ℕ). a ∷ b) (eqb→eq x y (s .0)) (same-eq k l (s .1))
-
--- ---- the inputs' words: one computed test over all 256 input values, for each n from 0 to 8
+-- ---- the inputs' words: one computed test, over all 256 input values and the 8 inputs
 
 right : ℕ → ℕ → Bool
-right x n = same (map (λ (w : Words). valueIn w x) (take n inputWords)) (inputsOn n x)
+right x i = eqb (valueIn (getD inputWords i noWords) x) (bit i x)
 
-right-all : T (all (λ (x : ℕ). all (right x) 9) 256)
-unfolding right same upto
+right-all : T (all (λ (x : ℕ). all (right x) 8) 256)
+unfolding right
 right-all = tt
 
-pub inputs-right : (x n : ℕ) → x < 256 → n ≤ 8 → map (λ (w : Words). valueIn w x) (take n inputWords) ≡ inputsOn n x
+-- input i has bit i of each input value
+pub input-right : (x i : ℕ) → x < 256 → i < 8 → valueIn (getD inputWords i noWords) x ≡ bit i x
 unfolding right
+input-right x i hx hi = eqb→eq _ _ (all-at (right x) 8 (all-at (λ (y : ℕ). all (right y) 8) 256 right-all x hx) i hi)
+
+pub inputs-right : (x n : ℕ) → x < 256 → n ≤ 8 → map (λ (w : Words). valueIn w x) (take n inputWords) ≡ inputsOn n x
 inputs-right x n hx hn =
-    same-eq _ _ (all-at (right x) 9 (all-at (λ (y : ℕ). all (right y) 9) 256 right-all x hx) n (omega arith))
+    let h : Words → ℕ = λ w. valueIn w x in
+    ap (map h) (sym (upto-take inputWords noWords n hn))
+    ∙ map-upto h (λ (i : ℕ). getD inputWords i noWords) n
+    ∙ upto-same (λ (i : ℕ). h (getD inputWords i noWords)) (λ (i : ℕ). bit i x) n (λ i q. input-right x i hx (omega arith))
 
 -- ---- a gate on words
 
