@@ -1,6 +1,6 @@
 -- The example of the call language, line by line: what is read, and what is written. Assumes nothing.
 use mathlib.Core.Path.{_≡_, refl}
-use mathlib.Core.List.{List, [], _∷_, _++_}
+use mathlib.Core.List.{List, [], _∷_}
 use Prim.Native.Nat.{ℕ}
 use Rattle.text.specs.Places.{run, headWord, tailWords, sameList}
 use Rattle.text.specs.Numbers.{numFrom, allHex, hexBytes, hexText, decText, numbersText}
@@ -14,12 +14,7 @@ use Rattle.bench.specs.State.{Present, nothing, least, verdictOf, reportOf}
 use Rattle.bench.specs.Calls.{openAnswer, gateEditAnswer, entryEditAnswer, placesFrom, sizeOf, storeAnswer}
 use Rattle.listing.specs.Printed.{lineName, gateLine, outputLine, linesTo, countsText}
 use Rattle.talk.specs.Texts.{reportText, reworkedText, hexLine, valuesText, groupText}
-use Rattle.talk.specs.Talk.{presentAfter, textOf}
-
--- all that is written for some lines
-abbrev pub written : Present → List (List ℕ) → List ℕ
-written p [] = []
-written p (l ∷ ls) = textOf p (orderIn l) ++ written (presentAfter p (orderIn l)) ls
+use Rattle.talk.specs.Talk.{presentAfter, textOf, written}
 
 -- the lines, and what they are answered
 abbrev pub asked : List (List ℕ)

@@ -9,3 +9,4 @@ pub mod Building
 pub mod Laying
 pub mod Unique
 pub mod Examples
+pub mod Sessions

@@ -1,6 +1,6 @@
 -- What is present after a line and what is answered to it, given what is present before; what `answer_line` promises of both.
 use mathlib.Core.Path.{_≡_}
-use mathlib.Core.List.{List, []}
+use mathlib.Core.List.{List, [], _∷_, _++_}
 use Prim.Native.Nat.{ℕ}
 use lib.ListN.{take}
 use Rattle.io.specs.Counts.{Counts}
@@ -14,6 +14,7 @@ use Rattle.bench.specs.Held.{benchOf, Stands}
 use Rattle.bench.specs.Calls.{afterOpen, afterGate, afterOutput, afterEntry, afterLimits, openAnswer, gateEdit, outputEditAnswer, entryEditAnswer, limitsAnswer, noRework, reported, storeAnswer, storedOf}
 use Rattle.bench.specs.Parts.{limits}
 use Rattle.script.specs.Order.{Order, silent, unreadable, askNew, askOpenMatrix, askOpenTable, askReport, askGate, askOutput, askEntry, askLimits, askStore, askHeld, askShow, askBuild, askDistance}
+use Rattle.script.specs.Reading.{orderIn}
 use Rattle.talk.specs.declared.Told.{Told}
 use Rattle.talk.specs.Words.{newText, unreadableText, storedName, builtName}
 use Rattle.talk.specs.Texts.{openText, editText, reportedText, writtenText, distanceText, heldText, showText}
@@ -53,6 +54,11 @@ textOf p askHeld = heldText p
 textOf p askShow = showText p
 textOf p (askBuild n rows d room) = writtenText builtName (buildAnswer n rows d room) (stored (built n rows d))
 textOf p (askDistance n masks depths t d) = distanceText (answerOf n masks depths t d)
+
+-- all that is written for some lines, one after the other
+abbrev pub written : Present → List (List ℕ) → List ℕ
+written p [] = []
+written p (line ∷ lines) = textOf p (orderIn line) ++ written (presentAfter p (orderIn line)) lines
 
 -- the bench after a line and the answer, first in the room: always within it, and on a bench that stands for p just what the two above say
 pub record Answers (b : Bench) (o : Order) (out : List ℕ) (r : Told) : Type 0 where

@@ -12,6 +12,7 @@ ghost use Rattle.talk.specs.Texts.{editText, openText};
 ghost use Rattle.talk.specs.Talk.{Answers};
 ghost use Rattle.talk.specs.Saying.{Said, Laid, BuildsFirst, storedMost, hexMost};
 use crate::OUT;
+use crate::STORED;
 use crate::Told;
 use crate::held::say_held;
 use crate::lines::say;
@@ -178,7 +179,7 @@ pub(crate) fn tell_store(b: Bench, size: usize, room: &mut [u8], out: &mut [u8; 
     requires { ⌜ storedMost ≤ length (now room) ⌝ }
     ensures { λ r. ⌜ Answers b (askStore size) (now (out .exit)) r ⌝ }
 {
-    let lent = at_most(size, 2048);
+    let lent = at_most(size, STORED);
     let writing = store(b, &mut room[..lent]);
     let len = say_written(out, b"stored ", writing, room);
     Told { bench: b, len }
@@ -193,7 +194,7 @@ fn build_in(line: &[u8], q: BuildCall, rows: &mut [u8], room: &mut [u8]) -> Writ
     let from = part.from;
     let to = part.to;
     let end = text::put_unhex(rows, 0, &line[from..to]);
-    let lent = at_most(q.room, 2048);
+    let lent = at_most(q.room, STORED);
     build(q.n, &rows[..end], q.d, &mut room[..lent])
 }
 

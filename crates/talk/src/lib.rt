@@ -21,6 +21,9 @@ pub struct Told {
 // The room that an answer is put in: longer than any answer, the longest being `held` of 256 lines.
 pub const OUT: usize = 32768;
 
+// More than any stored form has: 5 + 5 * 248 + 3 * 32 bytes.
+pub(crate) const STORED: usize = 2048;
+
 // The answer to a line of the call language: the bench after it, and the answer's bytes first in `out`. The room holds what
 // the line's words say in hexadecimal digits, and what is stored or built.
 pub fn answer_line(b: Bench, line: &[u8], room: &mut [u8; OUT], out: &mut [u8; OUT]) -> Told

@@ -7,6 +7,7 @@ ghost use Rattle.listing.specs.Printed.{labelled, newLine, refusedText};
 ghost use Rattle.talk.specs.Texts.{tallyText, reportText, reportedText, openText, reworkedText, editText, hexLine, distanceText};
 ghost use Rattle.talk.specs.Saying.{Said, storedMost, writtenIn};
 use crate::OUT;
+use crate::STORED;
 use crate::pieces::at_most;
 use crate::pieces::put_labelled;
 use crate::pieces::put_verdict;
@@ -108,7 +109,7 @@ fn say_bytes(out: &mut [u8; OUT], name: &[u8], count: usize, room: &[u8]) -> usi
     requires { ⌜ (length (now name) ≤ 64) × (storedMost ≤ length (now room)) ⌝ }
     ensures { λ r. ⌜ Said (now (out .exit)) r (hexLine (now (name .entry)) count (take (min count storedMost) (now (room .entry)))) ⌝ }
 {
-    let shown = at_most(count, 2048);
+    let shown = at_most(count, STORED);
     let counted = put_labelled(out, 0, name, count);
     let start = text::put(out, counted, b" ");
     let end = text::put_hex(out, start, &room[..shown]);

@@ -11,13 +11,13 @@ shl-bits : tie.Need-shl-bits
 shl-bits c = search needs
 
 shl-result : tie.Need-shl-result
-shl-result c = let n = c .before .args .n in omega (arith, one-shifted n (c .before .pre), few-bits n (c .if1 .taken))
+shl-result c = let n = c .before .args .n in omega (arith, one-shifted n (c .before .pre), few-bits n (omega (arith, c .if1 .taken)))
 
 returns : tie.Need-returns
 returns c =
     let n = c .before .args .n in
-    let few = few-bits n (c .if1 .taken) in
-    let e = ap (λ (b : ℕ). (1 * 2 ^ b) % 2 ^ 64) (one-shifted n (c .before .pre)) ∙ one-shifted (2 ^ n) (omega arith) ∙ end-small n (c .if1 .taken) in
+    let few = few-bits n (omega (arith, c .if1 .taken)) in
+    let e = ap (λ (b : ℕ). (1 * 2 ^ b) % 2 ^ 64) (one-shifted n (c .before .pre)) ∙ one-shifted (2 ^ n) (omega arith) ∙ end-small n (omega (arith, c .if1 .taken)) in
     (e, omega (arith, e, end-fits n))
 
 returns-2 : tie.Need-returns-2
