@@ -17,10 +17,11 @@ use Rattle.circuit.specs.Reading.{unless, outAnswer}
 use Rattle.circuit.proofs.Accept.{Shaped, past}
 use Rattle.bench.specs.declared.Bench.{Bench}
 use Rattle.bench.specs.declared.Edit.{Edit}
+use Rattle.bench.specs.declared.Edited.{Edited}
 use Rattle.bench.specs.State.{State, Sound, SoundPresent, Present, nothing, present}
 use Rattle.bench.specs.Held.{padded, wantedWords, emptyBench, fullBench, benchOf, Stands}
 use Rattle.bench.specs.Calls.{after, noRework, outputEditAnswer, outputEdited, afterOutput, afterLimits, OutputPromise, LimitsPromise}
-use Rattle.bench.specs.Parts.{limits, standing, outputLook}
+use Rattle.bench.specs.Parts.{limits, standing, outputLook, unreworked}
 use Rattle.bench.proofs.Standing.{full-standing, out-below}
 use Rattle.bench.proofs.Padding.{padded-set}
 use Rattle.bench.proofs.Stood.{openOn, standing-shaped, when-open, when-shut}
@@ -33,21 +34,22 @@ module _ (answer : Present → Answer) (next : Present → Present) (look : Benc
   Promise b edit after = (p : Present) → Stands b p → (edit ≡ noRework (answer p)) × (after ≡ benchOf (next p))
 
   -- a refused edit leaves the bench
-  pub edit-refused : (b : Bench) (w : Refusal) (edit : Edit) → look b ≡ Refused w → edit ≡ noRework (Refused w) → Promise b edit b
-  edit-refused b w edit h e p k =
+  pub edit-refused : (b : Bench) (w : Refusal) (r : Edited) → look b ≡ Refused w → r ≡ unreworked b (Refused w) → Promise b (r .edit) (r .bench)
+  edit-refused b w r h e p k =
       let a : answer p ≡ Refused w = sym (looked b p k) ∙ h in
-      (e ∙ ap noRework (sym a), k .is ∙ ap benchOf (sym (kept p w a)))
+      (ap (λ (z : Edited). z .edit) e ∙ ap noRework (sym a), ap (λ (z : Edited). z .bench) e ∙ k .is ∙ ap benchOf (sym (kept p w a)))
 
   -- an accepted one makes of the bench what f makes
   pub edit-done : (f : Bench → Bench) → ((s : State) → Sound s → answer (present s) ≡ Done → f (fullBench s) ≡ benchOf (next (present s)))
-      → (b : Bench) (edit : Edit) → look b ≡ Done → edit ≡ noRework Done → Promise b edit (f b)
-  edit-done f made b edit h e p k = (e ∙ ap noRework (sym (a p k)), ap f (k .is) ∙ moved p (k .sound) (a p k)) where
-    a : (p : Present) → Stands b p → answer p ≡ Done
-    a p k = sym (looked b p k) ∙ h
+      → (b : Bench) (r : Edited) → look b ≡ Done → r ≡ unreworked (f b) Done → Promise b (r .edit) (r .bench)
+  edit-done f made b r h e p k =
+      (ap (λ (z : Edited). z .edit) e ∙ ap noRework (sym (a p k)), ap (λ (z : Edited). z .bench) e ∙ ap f (k .is) ∙ moved p (k .sound) (a p k)) where
+        a : (p : Present) → Stands b p → answer p ≡ Done
+        a p k = sym (looked b p k) ∙ h
 
-    moved : (p : Present) → SoundPresent p → answer p ≡ Done → f (benchOf p) ≡ benchOf (next p)
-    moved nothing ok d = let z : Refused NothingOpen ≡ Done = sym shut ∙ d in let y : _≡_ {A = ℕ} 0 1 = cc in absurd (omega arith)
-    moved (present s) ok d = made s ok d
+        moved : (p : Present) → SoundPresent p → answer p ≡ Done → f (benchOf p) ≡ benchOf (next p)
+        moved nothing ok d = let z : Refused NothingOpen ≡ Done = sym shut ∙ d in let y : _≡_ {A = ℕ} 0 1 = cc in absurd (omega arith)
+        moved (present s) ok d = made s ok d
 
 -- ---- pointing an output
 
@@ -143,10 +145,11 @@ module _ (j line : ℕ) where
   unfolding outputEditAnswer
   shut = refl
 
-  pub output-refused : (b : Bench) (w : Refusal) (edit : Edit) → outputLookOn b ≡ Refused w → edit ≡ noRework (Refused w) → OutputPromise b j line edit b
+  pub output-refused : (b : Bench) (w : Refusal) (r : Edited) → outputLookOn b ≡ Refused w → r ≡ unreworked b (Refused w) → OutputPromise b j line (r .edit) (r .bench)
   output-refused = edit-refused (λ p. outputEditAnswer p j line) (λ p. afterOutput p j line) outputLookOn shut output-look output-kept
 
-  pub output-done : (b : Bench) (edit : Edit) → outputLookOn b ≡ Done → edit ≡ noRework Done → OutputPromise b j line edit (pointing b (set (b .outputs) j line))
+  pub output-done : (b : Bench) (r : Edited) → outputLookOn b ≡ Done → r ≡ unreworked (pointing b (set (b .outputs) j line)) Done
+      → OutputPromise b j line (r .edit) (r .bench)
   output-done =
       edit-done (λ p. outputEditAnswer p j line) (λ p. afterOutput p j line) outputLookOn shut output-look output-kept
       (λ b. pointing b (set (b .outputs) j line))
@@ -177,13 +180,15 @@ limited b g d a =
       values = b .values;
     }
 
-module _ (b : Bench) (g d a : ℕ) (edit : Edit) where
+module _ (b : Bench) (g d a : ℕ) (r : Edited) where
   full-limited : (s : State) → limited (fullBench s) g d a ≡ benchOf (afterLimits (present s) (limits g d a))
   unfolding fullBench
   full-limited s = refl
 
-  pub limits-open : openOn b ≡ true → edit ≡ noRework Done → LimitsPromise b (limits g d a) edit (limited b g d a)
-  limits-open t e = when-open _ b t (λ s ok is. (e, ap (λ (x : Bench). limited x g d a) is ∙ full-limited s))
+  pub limits-open : openOn b ≡ true → r ≡ unreworked (limited b g d a) Done → LimitsPromise b (limits g d a) (r .edit) (r .bench)
+  limits-open t e =
+      when-open _ b t
+      (λ s ok is. (ap (λ (z : Edited). z .edit) e, ap (λ (z : Edited). z .bench) e ∙ ap (λ (x : Bench). limited x g d a) is ∙ full-limited s))
 
-  pub limits-shut : openOn b ≡ false → edit ≡ noRework (Refused NothingOpen) → LimitsPromise b (limits g d a) edit b
-  limits-shut t e = when-shut _ b t (λ is. (e, is))
+  pub limits-shut : openOn b ≡ false → r ≡ unreworked b (Refused NothingOpen) → LimitsPromise b (limits g d a) (r .edit) (r .bench)
+  limits-shut t e = when-shut _ b t (λ is. (ap (λ (z : Edited). z .edit) e, ap (λ (z : Edited). z .bench) e ∙ is))

@@ -20,12 +20,12 @@ use Rattle.circuit.specs.Reading.{unless}
 use Rattle.circuit.proofs.Accept.{Shaped, past, both}
 use Rattle.circuit.proofs.LineLaws.{pad-read}
 use Rattle.bench.specs.declared.Bench.{Bench}
-use Rattle.bench.specs.declared.Edit.{Edit}
+use Rattle.bench.specs.declared.Edited.{Edited}
 use Rattle.bench.specs.Target.{Target, matrix, table, isMatrix, bytesOf, rowFits, entryFits, allOf, targetFits}
 use Rattle.bench.specs.State.{State, Sound, Present, nothing, present}
 use Rattle.bench.specs.Held.{padded, packed, rowWords, wantedWords, emptyBench, fullBench, benchOf, Stands}
-use Rattle.bench.specs.Calls.{after, noRework, entryAnswer, entryEditAnswer, withEntry, entryEdited, afterEntry, EntryPromise}
-use Rattle.bench.specs.Parts.{targetOf, valueFits, standing, entryLook}
+use Rattle.bench.specs.Calls.{after, entryAnswer, entryEditAnswer, withEntry, entryEdited, afterEntry, EntryPromise}
+use Rattle.bench.specs.Parts.{targetOf, valueFits, standing, entryLook, unreworked}
 use Rattle.bench.proofs.Standing.{circuit-fits, full-standing}
 use Rattle.bench.proofs.Stood.{standing-shaped}
 use Rattle.bench.proofs.Padding.{padded-set}
@@ -220,10 +220,10 @@ module _ (i value : ℕ) where
         bytes (matrix rows) = refl
         bytes (table entries) = refl
 
-  pub entry-refused : (b : Bench) (w : Refusal) (edit : Edit) → entryLookOn b ≡ Refused w → edit ≡ noRework (Refused w) → EntryPromise b i value edit b
+  pub entry-refused : (b : Bench) (w : Refusal) (r : Edited) → entryLookOn b ≡ Refused w → r ≡ unreworked b (Refused w) → EntryPromise b i value (r .edit) (r .bench)
   entry-refused = edit-refused (λ p. entryEditAnswer p i value) (λ p. afterEntry p i value) entryLookOn shut entry-look entry-kept
 
-  pub entry-done : (b : Bench) (edit : Edit) → entryLookOn b ≡ Done → edit ≡ noRework Done → EntryPromise b i value edit (entered b)
+  pub entry-done : (b : Bench) (r : Edited) → entryLookOn b ≡ Done → r ≡ unreworked (entered b) Done → EntryPromise b i value (r .edit) (r .bench)
   entry-done =
       edit-done (λ p. entryEditAnswer p i value) (λ p. afterEntry p i value) entryLookOn shut entry-look entry-kept entered
       (λ s ok d. entry-entered s (entry-accepted s ok d) ∙ ap (λ (x : Answer). benchOf (after x (entryEdited s i value) (present s))) (sym d))

@@ -14,11 +14,13 @@ use Rattle.circuit.specs.Gate.{Kind, wordsOf, noWords, valueIn}
 use Rattle.circuit.specs.Lines.{Gate, upto, reads, lines, depthStep, andStep, wordsStep, inputWords, depths, andDepths, words, reached}
 use Rattle.circuit.specs.Reading.{unless, shaped, gateAnswer, outAnswer}
 use Rattle.bench.specs.declared.Bench.{Bench}
+use Rattle.bench.specs.declared.Edited.{Edited}
 use Rattle.bench.specs.declared.Verdict.{Verdict}
 use Rattle.bench.specs.declared.Verdict.the-variants.{Wrong, OverGates, OverDepth, OverAndDepth, Pass}
 use Rattle.bench.specs.Target.{Target, matrix, table, rowFits, entryFits}
 use Rattle.bench.specs.State.{Limits, least}
 use Rattle.bench.specs.Held.{padded, wantedWords}
+use Rattle.bench.specs.Calls.{noRework}
 
 -- a target given by its kind and its bytes
 abbrev pub targetOf : Bool → List ℕ → Target
@@ -108,6 +110,10 @@ unfoldable pub entryLook : Bool → Bool → ℕ → ℕ → ℕ → ℕ → ℕ
 entryLook opened only n m g i value =
     unless (standing opened n m g) NothingOpen
     (unless (ltb i (cond only m (2 ^ n))) NotThere (unless (valueFits only n m value) BadTarget Done))
+
+-- a bench beside an answer that reworks no line
+abbrev pub unreworked : Bench → Answer → Edited
+unreworked b a = record { bench = b; edit = noRework a }
 
 -- ---- the verdict
 

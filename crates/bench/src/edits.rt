@@ -2,10 +2,9 @@
 ghost use mathlib.Core.Path.{_≡_};
 ghost use mathlib.Core.Bool.{cond};
 ghost use Prim.Native.Nat.{_^_, _<_, _≤_};
-ghost use Rattle.circuit.specs.declared.Answer.the-variants.{Done};
-ghost use Rattle.bench.specs.Held.{padded};
-ghost use Rattle.bench.specs.Calls.{placesFrom, sizeOf, noRework, reworking, GatePromise, OutputPromise, EntryPromise, LimitsPromise};
-ghost use Rattle.bench.specs.Parts.{standing, gateLook, outputLook, entryLook, limits};
+ghost use Rattle.circuit.specs.declared.Answer.the-variants.{Refused};
+ghost use Rattle.bench.specs.Calls.{reworking, GatePromise, OutputPromise, EntryPromise, LimitsPromise};
+ghost use Rattle.bench.specs.Parts.{standing, gateLook, outputLook, entryLook, unreworked, limits};
 use crate::Bench;
 use crate::Edit;
 use crate::Edited;
@@ -33,16 +32,24 @@ fn byte(x: usize) -> u8
     x as u8
 }
 
-// An answer that reworks no line.
-fn without_lines(answer: Answer) -> Edit
-    ensures { λ r. ⌜ r ≡ noRework answer ⌝ }
+// The bench with an answer that reworks no line.
+fn without_rework(bench: Bench, answer: Answer) -> Edited
+    ensures { λ r. ⌜ r ≡ unreworked bench answer ⌝ }
 {
     let lines = [0u8; 256];
-    Edit {
+    let edit = Edit {
         answer,
         lines,
         count: 0,
-    }
+    };
+    Edited { bench, edit }
+}
+
+// A refused edit: the bench stays as it was.
+fn refused(bench: Bench, why: Refusal) -> Edited
+    ensures { λ r. ⌜ r ≡ unreworked bench (Refused why) ⌝ }
+{
+    without_rework(bench, Answer::Refused(why))
 }
 
 // The marked lines in ascending order, and how many.
@@ -108,10 +115,7 @@ pub fn replace_gate(bench: Bench, k: usize, kind: usize, a: usize, b: usize) -> 
         b,
     );
     match look {
-        Answer::Refused(why) => {
-            let edit = without_lines(Answer::Refused(why));
-            Edited { bench, edit }
-        }
+        Answer::Refused(why) => refused(bench, why),
         Answer::Done => {
             let mut c = bench;
             c.kinds[k] = byte(kind);
@@ -147,15 +151,11 @@ pub fn point_output(bench: Bench, j: usize, line: usize) -> Edited
 {
     let look = look_at_output(bench.is_open, bench.n, bench.m, bench.g, j, line);
     match look {
-        Answer::Refused(why) => {
-            let edit = without_lines(Answer::Refused(why));
-            Edited { bench, edit }
-        }
+        Answer::Refused(why) => refused(bench, why),
         Answer::Done => {
             let mut c = bench;
             c.outputs[j] = byte(line);
-            let edit = without_lines(Answer::Done);
-            Edited { bench: c, edit }
+            without_rework(c, Answer::Done)
         }
     }
 }
@@ -209,17 +209,13 @@ pub fn change_entry(bench: Bench, i: usize, value: usize) -> Edited
         value,
     );
     match look {
-        Answer::Refused(why) => {
-            let edit = without_lines(Answer::Refused(why));
-            Edited { bench, edit }
-        }
+        Answer::Refused(why) => refused(bench, why),
         Answer::Done => {
             let mut c = bench;
             c.target[i] = (value % 256) as u8;
             let wanted = wanted_words(c.is_matrix, &c.target, c.m);
             c.wanted = wanted;
-            let edit = without_lines(Answer::Done);
-            Edited { bench: c, edit }
+            without_rework(c, Answer::Done)
         }
     }
 }
@@ -233,10 +229,8 @@ pub fn set_limits(bench: Bench, gates: u8, depth: u8, ands: u8) -> Edited
         c.max_gates = gates;
         c.max_depth = depth;
         c.max_and_depth = ands;
-        let edit = without_lines(Answer::Done);
-        Edited { bench: c, edit }
+        without_rework(c, Answer::Done)
     } else {
-        let edit = without_lines(Answer::Refused(Refusal::NothingOpen));
-        Edited { bench, edit }
+        refused(bench, Refusal::NothingOpen)
     }
 }

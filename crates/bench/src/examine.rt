@@ -177,10 +177,11 @@ pub(crate) fn rework(b: Bench, k: usize) -> Reworked
         let y = wide(gate::second_read(kind, left[j], right[j]));
         if is_reached(j == k, marks[x], marks[y]) {
             let at = n + j;
-            marks[at] = true;
+            let words = gate::eval_gate(kind, c.values[x], c.values[y]);
             c.depths[at] = deeper(c.depths[x], c.depths[y]);
             c.and_depths[at] = and_deeper(kind, c.and_depths[x], c.and_depths[y]);
-            c.values[at] = gate::eval_gate(kind, c.values[x], c.values[y]);
+            marks[at] = true;
+            c.values[at] = words;
         }
         j += 1;
     }

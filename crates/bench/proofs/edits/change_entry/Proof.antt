@@ -1,12 +1,12 @@
 -- `bench::edits::change_entry` meets its contract. Assumes nothing.
-use mathlib.Core.Path.{_≡_, _∙_, sym, subst}
+use mathlib.Core.Path.{_≡_, _∙_, sym, ap}
 use mathlib.Core.List.{List}
 use borrow.Author.Needs.{needs}
 use Prim.Native.Nat.{_%_}
 use lib.ListN.{set}
 use Rattle.circuit.specs.declared.Answer.the-variants.{Done}
 use Rattle.circuit.specs.declared.Words.{Words}
-use Rattle.bench.specs.Calls.{EntryPromise}
+use Rattle.bench.specs.Parts.{unreworked}
 use Rattle.bench.proofs.EntryLaws.{EntryFits, entry-fits, entryLookOn, entry-refused, entry-done, retargeted}
 use Rattle.bench.proofs.edits.change_entry.Statement.{statement}
 use Rattle.bench.proofs.edits.change_entry.Tie as tie
@@ -17,8 +17,8 @@ look-at-entry-requires c κs = search needs
 enum-known-look : tie.Need-enum-known-look
 enum-known-look c = search needs
 
-without-lines-requires : tie.Need-without-lines-requires
-without-lines-requires c κs = search needs
+refused-requires : tie.Need-refused-requires
+refused-requires c κs = search needs
 
 enum-told : tie.Need-enum-told
 enum-told c = search needs
@@ -39,23 +39,23 @@ element-write-c c = ok c .there
 wanted-words-requires : tie.Need-wanted-words-requires
 wanted-words-requires c κs = ok (c .before .before) .shape .m32
 
-without-lines-requires-2 : tie.Need-without-lines-requires-2
-without-lines-requires-2 c κs = search needs
+without-rework-requires : tie.Need-without-rework-requires
+without-rework-requires c κs = search needs
 
 returns : tie.Need-returns
 returns c =
     let t = c .before .before in
     let k = t .before .before in
     let a = k .before .args in
-    entry-refused (a .i) (a .value) (a .bench) _ _ (sym (k .look-at-entry .ensures) ∙ t .look .given .1) (c .without-lines .ensures)
+    entry-refused (a .i) (a .value) (a .bench) _ _ (sym (k .look-at-entry .ensures) ∙ t .look .given .1) (c .refused .ensures)
 
 returns-2 : tie.Need-returns-2
 returns-2 c =
     let t = c .before .before .before .before in
     let a = t .before .before .before .args in
-    subst
-    (λ (w : List Words). EntryPromise (a .bench) (a .i) (a .value) (c .without-lines2 .result) (retargeted (a .bench) (set (a .bench .target) (a .i) (a .value % 256)) w))
-    (sym (c .before .wanted-words .ensures)) (entry-done (a .i) (a .value) (a .bench) _ (looked t) (c .without-lines2 .ensures))
+    let bytes = set (a .bench .target) (a .i) (a .value % 256) in
+    entry-done (a .i) (a .value) (a .bench) _ (looked t)
+    (c .without-rework .ensures ∙ ap (λ (w : List Words). unreworked (retargeted (a .bench) bytes w) Done) (c .before .wanted-words .ensures))
 
 pub change-entry-spec : {M : Type 1} → statement M
 change-entry-spec =
@@ -63,11 +63,11 @@ change-entry-spec =
     (tie.spec
     look-at-entry-requires
     enum-known-look
-    without-lines-requires
+    refused-requires
     enum-told
     cast-c
     element-write-c
     wanted-words-requires
-    without-lines-requires-2
+    without-rework-requires
     returns
     returns-2)

@@ -1,11 +1,10 @@
 -- `bench::edits::point_output` meets its contract. Assumes nothing.
-use mathlib.Core.Path.{_≡_, _∙_, sym, subst}
+use mathlib.Core.Path.{_≡_, _∙_, sym, ap}
 use Prim.Native.Nat.{ℕ}
 use native.Mathlib.Omega.{arith}
 use lib.ListN.{set}
 use Rattle.circuit.specs.declared.Answer.the-variants.{Done}
-use Rattle.bench.specs.Calls.{OutputPromise}
-use Rattle.bench.specs.Parts.{outputLook}
+use Rattle.bench.specs.Parts.{outputLook, unreworked}
 use Rattle.bench.proofs.EditLaws.{OutputFits, output-fits, output-refused, output-done, pointing}
 use borrow.Author.Needs.{needs}
 use Rattle.bench.proofs.edits.point_output.Statement.{statement}
@@ -17,8 +16,8 @@ look-at-output-requires c κs = search needs
 enum-known-look : tie.Need-enum-known-look
 enum-known-look c = search needs
 
-without-lines-requires : tie.Need-without-lines-requires
-without-lines-requires c κs = search needs
+refused-requires : tie.Need-refused-requires
+refused-requires c κs = search needs
 
 enum-told : tie.Need-enum-told
 enum-told c = search needs
@@ -36,22 +35,22 @@ byte-requires c κs = omega (arith, ok c, ok c .shape)
 element-write-c : tie.Need-element-write-c
 element-write-c c = omega (arith, ok (c .before), ok (c .before) .shape)
 
-without-lines-requires-2 : tie.Need-without-lines-requires-2
-without-lines-requires-2 c κs = search needs
+without-rework-requires : tie.Need-without-rework-requires
+without-rework-requires c κs = search needs
 
 returns : tie.Need-returns
 returns c =
     let t = c .before .before in
     let k = t .before .before in
     let a = k .before .args in
-    output-refused (a .j) (a .line) (a .bench) _ _ (sym (k .look-at-output .ensures) ∙ t .look .given .1) (c .without-lines .ensures)
+    output-refused (a .j) (a .line) (a .bench) _ _ (sym (k .look-at-output .ensures) ∙ t .look .given .1) (c .refused .ensures)
 
 returns-2 : tie.Need-returns-2
 returns-2 c =
     let t = c .before .before in
     let a = t .before .before .before .args in
-    subst (λ (x : ℕ). OutputPromise (a .bench) (a .j) (a .line) (c .without-lines2 .result) (pointing (a .bench) (set (a .bench .outputs) (a .j) x)))
-    (sym (c .before .byte .ensures)) (output-done (a .j) (a .line) (a .bench) _ (looked t) (c .without-lines2 .ensures))
+    output-done (a .j) (a .line) (a .bench) _ (looked t)
+    (c .without-rework .ensures ∙ ap (λ (x : ℕ). unreworked (pointing (a .bench) (set (a .bench .outputs) (a .j) x)) Done) (c .before .byte .ensures))
 
 pub point-output-spec : {M : Type 1} → statement M
 point-output-spec =
@@ -59,10 +58,10 @@ point-output-spec =
     (tie.spec
     look-at-output-requires
     enum-known-look
-    without-lines-requires
+    refused-requires
     enum-told
     byte-requires
     element-write-c
-    without-lines-requires-2
+    without-rework-requires
     returns
     returns-2)

@@ -1,8 +1,9 @@
 -- `replace_gate`: on a right bench the answer is the edit's, and what is left is the bench of the state after it.
 use borrow.Author.Needs.{needs}
 use native.Mathlib.Omega.{arith}
-use mathlib.Core.Path.{subst, _∙_}
+use mathlib.Core.Path.{subst, ap, _∙_}
 use Rattle.bench.specs.declared.Bench.{Bench}
+use Rattle.bench.specs.declared.Edited.{Edited}
 use Rattle.bench.specs.Parts.{Reexamined}
 use Rattle.bench.proofs.Replacing.{LookFits, look-fits, look-answers, refused-edit, done-edit, replaced}
 use Rattle.bench.proofs.edits.replace_gate.Statement.{statement}
@@ -14,8 +15,8 @@ look-at-gate-requires c κs = search needs
 enum-known-look : tie.Need-enum-known-look
 enum-known-look c = search needs
 
-without-lines-requires : tie.Need-without-lines-requires
-without-lines-requires c κs = search needs
+refused-requires : tie.Need-refused-requires
+refused-requires c κs = search needs
 
 enum-told : tie.Need-enum-told
 enum-told c = search needs
@@ -57,7 +58,7 @@ returns c = λ p st.
     let a = l .before .args in
     let r = refused-edit p (a .k) (a .kind) (a .a) (a .b) _
     (look-answers (a .bench) p st (a .k) (a .kind) (a .a) (a .b) _ _ (l .look-at-gate .ensures) (c .before .before .look .given .1)) in
-    (c .without-lines .ensures ∙ r .0, st .is ∙ r .1)
+    (ap (λ (z : Edited). z .edit) (c .refused .ensures) ∙ r .0, ap (λ (z : Edited). z .bench) (c .refused .ensures) ∙ st .is ∙ r .1)
 
 returns-2 : tie.Need-returns-2
 returns-2 c = λ p st.
@@ -83,7 +84,7 @@ replace-gate-spec =
     (tie.spec
     look-at-gate-requires
     enum-known-look
-    without-lines-requires
+    refused-requires
     enum-told
     byte-requires
     element-write-c

@@ -51,8 +51,20 @@ is-reached-requires c κs = search needs
 add-at : tie.Need-add-at Inv-loop μ-loop
 add-at c = search needs
 
-array-write-marks : tie.Need-array-write-marks Inv-loop μ-loop
-array-write-marks c = search needs
+mul-eval-gate : tie.Need-mul-eval-gate Inv-loop μ-loop
+mul-eval-gate c = search needs
+
+element-copy-out-eval-gate : tie.Need-element-copy-out-eval-gate Inv-loop μ-loop
+element-copy-out-eval-gate c = search needs
+
+mul-eval-gate-2 : tie.Need-mul-eval-gate-2 Inv-loop μ-loop
+mul-eval-gate-2 c = search needs
+
+element-copy-out-eval-gate-2 : tie.Need-element-copy-out-eval-gate-2 Inv-loop μ-loop
+element-copy-out-eval-gate-2 c = search needs
+
+eval-gate-requires : tie.Need-eval-gate-requires Inv-loop μ-loop
+eval-gate-requires c κs = search needs
 
 element-copy-out-deeper : tie.Need-element-copy-out-deeper Inv-loop μ-loop
 element-copy-out-deeper c = search needs
@@ -78,26 +90,14 @@ and-deeper-requires c κs = search needs
 element-write-c-2 : tie.Need-element-write-c-2 Inv-loop μ-loop
 element-write-c-2 c = search needs
 
-mul-eval-gate : tie.Need-mul-eval-gate Inv-loop μ-loop
-mul-eval-gate c = search needs
+array-write-marks : tie.Need-array-write-marks Inv-loop μ-loop
+array-write-marks c = search needs
 
-element-copy-out-eval-gate : tie.Need-element-copy-out-eval-gate Inv-loop μ-loop
-element-copy-out-eval-gate c = search needs
+mul-words : tie.Need-mul-words Inv-loop μ-loop
+mul-words c = search needs
 
-mul-eval-gate-2 : tie.Need-mul-eval-gate-2 Inv-loop μ-loop
-mul-eval-gate-2 c = search needs
-
-element-copy-out-eval-gate-2 : tie.Need-element-copy-out-eval-gate-2 Inv-loop μ-loop
-element-copy-out-eval-gate-2 c = search needs
-
-eval-gate-requires : tie.Need-eval-gate-requires Inv-loop μ-loop
-eval-gate-requires c κs = search needs
-
-mul-t61 : tie.Need-mul-t61 Inv-loop μ-loop
-mul-t61 c = search needs
-
-element-set-from-c : tie.Need-element-set-from-c Inv-loop μ-loop
-element-set-from-c c = search needs
+element-set-from-words : tie.Need-element-set-from-words Inv-loop μ-loop
+element-set-from-words c = search needs
 
 add-j : tie.Need-add-j Inv-loop μ-loop
 add-j c = search needs
@@ -118,10 +118,10 @@ loop-again c =
     let is = test-is (s .args .b) (s .args .k) (s .pre .0) (s .pre .1) (h .loop .c) (h .loop .marks) (h .loop .j) (x .wide .result) (y .wide2 .result) (h .loop .inv)
     (x .wide .ensures .0) ey in
     ⊎-elim
-    (λ w. moved (w .10) (w .11)
+    (λ w. moved (search needs) (search needs)
     (hit (s .args .b) (s .args .k) (s .pre .0) (s .pre .1) (h .loop .c) (h .loop .marks) (h .loop .j) (x .wide .result) (y .wide2 .result)
-    (w .3 .result) (w .6 .result) (w .9 .result) (i .loop-test .taken) (h .loop .inv) (sym is ∙ sym (a .is-reached .ensures) ∙ w .0 .taken)
-    (x .wide .ensures .0) ey (record { depth = w .3 .ensures; and = w .6 .ensures; value = w .9 .ensures })))
+    (w .6 .result) (w .9 .result) (w .3 .result) (i .loop-test .taken) (h .loop .inv) (sym is ∙ sym (a .is-reached .ensures) ∙ w .0 .taken)
+    (x .wide .ensures .0) ey (record { depth = w .6 .ensures; and = w .9 .ensures; value = w .3 .ensures })))
     (λ w. moved (w .1) (w .2)
     (miss (s .args .b) (s .args .k) (s .pre .0) (s .pre .1) (h .loop .c) (h .loop .marks) (h .loop .j) (i .loop-test .taken) (h .loop .inv)
     (sym is ∙ sym (a .is-reached .ensures) ∙ w .0 .left)))
@@ -150,7 +150,11 @@ rework-spec =
     array-read-is-reached-2
     is-reached-requires
     add-at
-    array-write-marks
+    mul-eval-gate
+    element-copy-out-eval-gate
+    mul-eval-gate-2
+    element-copy-out-eval-gate-2
+    eval-gate-requires
     element-copy-out-deeper
     element-copy-out-deeper-2
     deeper-requires
@@ -159,13 +163,9 @@ rework-spec =
     element-copy-out-and-deeper-2
     and-deeper-requires
     element-write-c-2
-    mul-eval-gate
-    element-copy-out-eval-gate
-    mul-eval-gate-2
-    element-copy-out-eval-gate-2
-    eval-gate-requires
-    mul-t61
-    element-set-from-c
+    array-write-marks
+    mul-words
+    element-set-from-words
     add-j
     loop-less
     loop-again
