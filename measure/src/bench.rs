@@ -1,5 +1,5 @@
-//! Open, edits of the first, a middle and the last gate, and report. The native bench examines when it reports, so a report
-//! follows each open and each edit on both sides.
+//! Open, edits of the first, a middle and the last gate, and report. The native bench examines when it is asked what it holds or
+//! for a report, this one when something changes.
 
 use crate::{keep, row};
 use allpawasi::{Bench, Limits};
@@ -29,50 +29,60 @@ fn largest() -> (Circuit, Vec<u8>) {
     (c, table)
 }
 
+/// A call on both benches, three ways. The first is the bar: after it both know every line's values, depth and AND depth; this bench
+/// holds them, and the native one, which keeps nothing, examines afresh. Then with a report on both sides; then the native call alone,
+/// which only stores what it is given.
+fn rows(name: &str, (ours, theirs): &mut (Bench, Native), call: impl Fn(&mut Bench), native: impl Fn(&mut Native)) {
+    let mut alone = || (0..CALLS).for_each(|_| call(ours));
+    row(name, CALLS, &mut alone, || {
+        (0..CALLS).for_each(|_| {
+            native(theirs);
+            keep(theirs.held());
+        })
+    });
+    row(&format!("{name}; native not examined"), CALLS, &mut alone, || (0..CALLS).for_each(|_| native(theirs)));
+    row(
+        &format!("{name}, then report"),
+        CALLS,
+        || {
+            (0..CALLS).for_each(|_| {
+                call(ours);
+                keep(ours.report());
+            })
+        },
+        || {
+            (0..CALLS).for_each(|_| {
+                native(theirs);
+                keep(theirs.report());
+            })
+        },
+    );
+}
+
 pub fn measure() {
     for (name, (c, table)) in [("AES S-box, 113 gates", aes()), ("248 gates", largest())] {
         let bytes = write(&c);
         let limits = Limits { gates: 255, depth: 255, and_depth: 255 };
         let native_limits = NativeLimits { gates: 255, depth: 255, and_depth: 255 };
         let target = Target::Table(table.clone());
-        let (mut ours, mut theirs) = (Bench::new(), Native::new());
-        row(
-            &format!("open and report, {name}"),
-            CALLS,
-            || {
-                (0..CALLS).for_each(|_| {
-                    keep(ours.open_table(black_box(&bytes), &table, limits));
-                    keep(ours.report());
-                })
-            },
-            || {
-                (0..CALLS).for_each(|_| {
-                    keep(theirs.open(black_box(&bytes), target.clone(), native_limits));
-                    keep(theirs.report());
-                })
-            },
+        let mut both = (Bench::new(), Native::new());
+        rows(
+            &format!("open, {name}"),
+            &mut both,
+            |ours| keep(ours.open_table(black_box(&bytes), &table, limits)),
+            |theirs| keep(theirs.open(black_box(&bytes), target.clone(), native_limits)),
         );
         let last = c.gates.len() - 1;
         for (place, k) in [("first", 0), ("middle", last / 2), ("last", last)] {
-            let g = &c.gates[k];
-            let [kind, a, b] = [g.kind, g.a, g.b].map(usize::from);
-            row(
-                &format!("edit and report, {place} gate, {name}"),
-                CALLS,
-                || {
-                    (0..CALLS).for_each(|_| {
-                        keep(ours.replace_gate(k, kind, a, b));
-                        keep(ours.report());
-                    })
-                },
-                || {
-                    (0..CALLS).for_each(|_| {
-                        keep(theirs.replace_gate(k as u64, kind as u64, a as u64, b as u64));
-                        keep(theirs.report());
-                    })
-                },
+            let [kind, a, b] = [c.gates[k].kind, c.gates[k].a, c.gates[k].b].map(usize::from);
+            rows(
+                &format!("edit {place} gate, {name}"),
+                &mut both,
+                |ours| keep(ours.replace_gate(k, kind, a, b)),
+                |theirs| keep(theirs.replace_gate(k as u64, kind as u64, a as u64, b as u64)),
             );
         }
+        let (ours, theirs) = &mut both;
         row(
             &format!("report, {name}"),
             CALLS,
