@@ -1,33 +1,27 @@
 -- `relax` meets its contract: the entry becomes the lesser of what it was and the sum.
-use mathlib.Core.Path.{ap}
+use mathlib.Core.Path.{_≡_, ap, _∙_}
+use Prim.Native.Nat.{ℕ, _-_, _+_, _<_, min}
 use native.Mathlib.Omega.{arith}
 use borrow.Author.Needs.{needs}
-use lib.ListN.{set}
+use lib.Bits.{bitXor}
+use lib.ListN.{getD, set}
 use Rattle.distance.specs.Table.{relaxed}
-use Rattle.distance.proofs.Entries.{low-lt}
+use Rattle.distance.proofs.Entries.{asked, prev-lt}
 use Rattle.distance.proofs.table.relax.Statement.{statement}
 use Rattle.distance.proofs.table.relax.Tie as tie
 
-cast-r : tie.Need-cast-r
-cast-r c = search needs
-
-cast-low : tie.Need-cast-low
-cast-low c = omega (arith, low-lt (c .args .e) (c .args .m) (omega arith))
+-- the entry that is asked stands below
+below : (c : tie.Start) → bitXor (c .args .e - 256) (c .args .m) < c .args .e
+below c = omega (arith, asked (c .args .e) (c .args .m) (c .pre .0) (omega arith), prev-lt (c .args .e) (c .args .m) (c .pre .0) (omega arith))
 
 sub-without : tie.Need-sub-without
 sub-without c = search needs
 
 mul-without : tie.Need-mul-without
-mul-without c = search needs
-
-add-without : tie.Need-add-without
-add-without c = omega (arith, low-lt (c .args .e) (c .args .m) (omega arith))
-
-mul-without-2 : tie.Need-mul-without-2
-mul-without-2 c = omega (arith, low-lt (c .args .e) (c .args .m) (omega arith))
+mul-without c = omega (arith, below c)
 
 element-copy-out-without : tie.Need-element-copy-out-without
-element-copy-out-without c = omega (arith, low-lt (c .args .e) (c .args .m) (omega arith))
+element-copy-out-without c = omega (arith, below c)
 
 mul-lesser : tie.Need-mul-lesser
 mul-lesser c = search needs
@@ -46,18 +40,17 @@ element-write-h c = search needs
 
 returns : tie.Need-returns
 unfolding relaxed
-returns c = let a = c .before .before .before .args in ap (set (a .h .now) (a .e)) (c .lesser .ensures)
+returns c =
+    let a = c .before .before .before .args in
+    let e = asked (a .e) (a .m) (c .before .before .before .pre .0) (omega arith) in
+    ap (set (a .h .now) (a .e)) (c .lesser .ensures ∙ ap (λ (j : ℕ). min (getD (a .h .now) (a .e) 0) (getD (a .h .now) j 0 + a .c)) e)
 
 pub relax-spec : {M : Type 1} → statement M
 relax-spec =
     tie.close
     (tie.spec
-    cast-r
-    cast-low
     sub-without
     mul-without
-    add-without
-    mul-without-2
     element-copy-out-without
     mul-lesser
     element-copy-out-lesser
