@@ -11,7 +11,7 @@ use Rattle.distance.specs.Base.{Line, lines, Small, Shallow, Gate, gate, made, 
 use Rattle.distance.specs.Distance.{gates}
 use Rattle.distance.specs.Table.{far, costAt, Holds}
 use Rattle.builder.specs.declared.grow.State.{State}
-use Rattle.builder.specs.Rule.{Row, row, reach, count, distances, sum, nextGate, greedy, taken}
+use Rattle.builder.specs.Rule.{Row, row, reach, distances, sum, nextGate, greedy, taken}
 
 -- the rows of a list of masks and a list of limits
 abbrev pub rowsOf : List ℕ → List ℕ → List Row
