@@ -38,10 +38,6 @@ pub record Holds (h : List ℕ) (ls : List Line) (sizes : ℕ) : Type 0 where
 unfoldable pub noLines : List ℕ
 noLines = set (replicate 2304 far) 0 0
 
--- what the array says of sets of k lines with mask t
-unfoldable pub entry : List ℕ → ℕ → ℕ → ℕ
-entry h k t = getD h (k * 256 + t) 0
-
 -- where the entries of the sizes below `sizes` end: there are 9 sizes
 abbrev pub endOf : ℕ → ℕ
 endOf sizes = min sizes 9 * 256
