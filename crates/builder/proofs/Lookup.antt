@@ -2,7 +2,7 @@
 use mathlib.Core.Bool.{Bool, true, false, cond}
 use mathlib.Core.List.{List, [], _∷_, _++_}
 use mathlib.Core.Path.{_≡_, refl, sym, ap, ap₂, _∙_, subst}
-use Prim.Native.Nat.{ℕ, suc, _+_, _-_, _*_, _^_, _≤_, _<_, min}
+use Prim.Native.Nat.{ℕ, suc, _+_, _*_, _^_, _≤_, _<_, min}
 use native.Mathlib.Decide.{decLe}
 use native.Mathlib.Nat.{zero-add}
 use native.Mathlib.Omega.{arith}
@@ -64,7 +64,7 @@ module _ (h : List ℕ) (ls : List Line) (sizes : ℕ) (r : Row) (q : Gate) (c :
       let t = r .mask in
       let b = 2 ^ (r .limit) in
       let m = made ls q .mask in
-      let v = held .at k (bitXor m t) p (xor-lt 8 m t mask byte) in
+      let v = held .holds .at k (bitXor m t) p (xor-lt 8 m t mask byte) in
       let o = leb-false (least (suc k) t ls) b (sym (can-least (suc k) t b ls (under-far r ok)) ∙ f) in
       let s = least-snoc k t ls (made ls q) in
       can-least (suc k) t b new (under-far r ok) ∙ go (decLe (c + getD h (k * 256 + bitXor m t) 0) b) v o s

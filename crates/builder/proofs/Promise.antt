@@ -11,12 +11,12 @@ use Rattle.circuit.specs.declared.Answer.{Answer}
 use Rattle.circuit.specs.declared.Answer.the-variants.{Done, Refused}
 use Rattle.circuit.specs.declared.Circuit.{Circuit}
 use Rattle.circuit.specs.declared.Refusal.{Refusal}
-use Rattle.circuit.specs.declared.Refusal.the-variants.{Shape, Length, Mark, UnknownKind, Operand, NoLine, NotXor, Target, TooDeep, TooShallow, NoRoom, NotThere, NothingOpen}
+use Rattle.circuit.specs.declared.Refusal.the-variants.{Shape, NoRoom}
 use Rattle.circuit.specs.declared.Writing.{Writing}
 use Rattle.circuit.specs.declared.Writing.the-variants.{Written, NotWritten}
 use Rattle.circuit.specs.Lines.{Listing}
 use Rattle.circuit.specs.Stored.{stored, held, listed}
-use Rattle.circuit.specs.Reading.{shaped, refusalNo}
+use Rattle.circuit.specs.Reading.{shaped}
 use Rattle.circuit.specs.Writing.{writeAnswer, roomAfter, Wrote}
 use Rattle.circuit.proofs.Back.{listed-held}
 use Rattle.distance.specs.Base.{inputs}

@@ -2,7 +2,7 @@
 use mathlib.Core.Bool.{Bool, true, false, cond}
 use mathlib.Core.List.{List, [], _∷_, _++_, map, append-assoc, append-nil}
 use mathlib.Core.Path.{_≡_, refl, sym, ap, ap₂, _∙_, subst}
-use Prim.Native.Nat.{ℕ, zero, suc, _+_, _-_, _*_, _^_, _≤_, _<_, max}
+use Prim.Native.Nat.{ℕ, zero, suc, _+_, _-_, _^_, _≤_, _<_, max}
 use native.Mathlib.Numerals.{add-one}
 use native.Mathlib.Omega.{arith}
 use borrow.Author.Tests.{le-leb, lt-leb, eq-eqb, ne-eqb, eqb-false}
@@ -12,12 +12,13 @@ use lib.ListN.{length, getD, take, drop, set, length-set, length-map, length-app
 use lib.Seq.{length-take-le, take-suc-set, getD-take}
 use Rattle.circuit.specs.Lines.{greatest}
 use Rattle.distance.specs.Base.{Line, line, lines, none, Gate, gate, made, run, Small, Shallow}
-use Rattle.distance.specs.Table.{far, costAt}
+use Rattle.distance.specs.Table.{costAt, endOf}
+use Rattle.distance.specs.Table as table
 use Rattle.distance.proofs.Entries.{cost-is}
 use Rattle.distance.proofs.Search.{lines-at, lines-end}
 use Rattle.builder.specs.declared.grow.State.{State}
 use Rattle.builder.specs.Rule.{Row, row, away, distances, sum, deepest, makes, lowest, lowestFrom, nextGate, greedy, taken}
-use Rattle.builder.specs.Kept.{Sounds, Alive, rowsOf, padded, Held, Refilled, nextGaps, Lowering, base, Choosing, Poised, Tabled, Next, Stepped, Stands, Grown}
+use Rattle.builder.specs.Kept.{Sounds, Alive, rowsOf, padded, Held, nextGaps, Lowering, base, Choosing, Poised, Tabled, Next, Stepped, Stands, Grown}
 use Rattle.builder.proofs.Reach.{small-get, small-made, away-lt}
 use Rattle.builder.proofs.Ends.{Less, next-less, alive-more}
 use Rattle.builder.proofs.Goals.{next-distances, next-falls}
@@ -29,7 +30,7 @@ module _ (ms ds : List ℕ) (r : Row) (i : ℕ) (l : length ms ≡ length ds) wh
   low-step : (x : Bool) → i < length ms → makes r (line (getD ms i 0) (getD ds i 0)) ≡ x
       → lowestFrom r i (drop i (lines ms ds)) ≡ cond x i (lowestFrom r (i + 1) (drop (i + 1) (lines ms ds)))
   low-step x h e =
-      ap (lowestFrom r i) (lines-at ms ds i l h)
+      ap (lowestFrom r i) (lines-at ms ds i h (omega arith))
       ∙ ap₂ (λ (y : Bool) (k : ℕ). cond y i (lowestFrom r k (drop k (lines ms ds)))) e (sym (add-one i))
 
   pub low-hit : i < length ms → getD ms i 0 ≡ r .mask → getD ds i 0 ≤ r .limit → lowestFrom r i (drop i (lines ms ds)) ≡ i
@@ -42,7 +43,7 @@ module _ (ms ds : List ℕ) (r : Row) (i : ℕ) (l : length ms ≡ length ds) wh
   low-deep h p q = low-step false h (rw (eq-eqb (getD ms i 0) (r .mask) p, lt-leb (getD ds i 0) (r .limit) q))
 
   pub low-end : length ms ≤ i → lowestFrom r i (drop i (lines ms ds)) ≡ 0
-  low-end h = ap (lowestFrom r i) (lines-end ms ds i h)
+  low-end h = ap (lowestFrom r i) (lines-end ms ds i (omega arith))
 
 -- it is a line, or 0
 low-le : (r : Row) (i : ℕ) (ls : List Line) → lowestFrom r i ls ≤ i + length ls - 1
@@ -153,9 +154,6 @@ module _ (ts limits : List ℕ) (s : State) (p : Poised ts limits s) where
   pub top-le : greatest (distances (base s) rs) ≤ 8
   top-le = greatest-below (distances (base s) rs) 8 (λ i. omega (arith, distances-small (base s) rs (p .small) (p .sound) i))
 
-  pub filling : (length ms ≡ length ds) × Shallow ds
-  filling = (even, shallow-take (s .depths) (s .len) (p .shallow))
-
   -- ---- a gate more
   module _ (h : List ℕ) (t : Tabled ts limits s h) (i j : ℕ) (nx : Next (base s) rs i j) where
     less : Less (base s) rs (gate i j)
@@ -239,9 +237,6 @@ module _ (ts limits : List ℕ) (s : State) (p : Poised ts limits s) where
           top-is : top ≡ greatest (distances new rs)
           top-is = et ∙ ap greatest taken-next
 
-          pub refilling-asks : (length h ≡ 2304) × ((k : ℕ) → getD h k 0 ≤ far) × (c ≤ 32768) × (top ≤ 9)
-          refilling-asks = (t .long, t .cap, cost-le w c depth-small ec, omega (arith, top-is, top-falls, top-le))
-
           abbrev after : State
           after =
               record {
@@ -262,7 +257,7 @@ module _ (ts limits : List ℕ) (s : State) (p : Poised ts limits s) where
               ∙ lines-snoc ms ds m w even
               ∙ ap (λ (l : Line). lines ms ds ++ (l ∷ [])) (ap (line m) ew ∙ sym made-is)
 
-          pub stepped : (g : List ℕ) → Refilled h g m c (top * 256) → Stepped ts limits s after g i j
+          pub stepped : (g : List ℕ) → table.Stepped h g m c (endOf top) → Stepped ts limits s after g i j
           stepped g f =
               record {
                 lines-are = grown;
@@ -278,7 +273,7 @@ module _ (ts limits : List ℕ) (s : State) (p : Poised ts limits s) where
                     subst (λ (l : List Line). Held g l (greatest (distances l rs))) (sym grown)
                     (subst (λ (l : Line). Held g (base s ++ (l ∷ [])) (greatest (distances (base s ++ (l ∷ [])) rs))) (sym (made-is ∙ ap (line m) (sym ew)))
                     (subst (Held g (base s ++ (line m w ∷ []))) (top-is ∙ ap (λ (l : Line). greatest (distances (base s ++ (l ∷ [])) rs)) (made-is ∙ ap (line m) (sym ew)))
-                    (held-more h g m w c (greatest (distances (base s) rs)) top (base s) (cost-is w c depth-small ec) (subst (λ (x : ℕ). x < 256) mask-is mask-byte) (omega (arith, top-is, top-falls)) t f)));
+                    (held-more h g m w c (greatest (distances (base s) rs)) top (base s) ec (subst (λ (x : ℕ). x < 256) mask-is mask-byte) (omega (arith, top-is, top-falls)) (omega (arith, top-is, top-falls, top-le)) t f)));
               }
 
     -- a state that stepped is poised again

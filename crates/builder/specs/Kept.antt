@@ -9,9 +9,9 @@ use lib.ListN.{length, getD, take, set, replicate}
 use Rattle.circuit.specs.Lines.{greatest}
 use Rattle.distance.specs.Base.{Line, lines, Small, Shallow, Gate, gate, made, run, weight}
 use Rattle.distance.specs.Distance.{gates}
-use Rattle.distance.specs.Table.{far, costAt, least, relaxed}
+use Rattle.distance.specs.Table.{far, costAt, Holds}
 use Rattle.builder.specs.declared.grow.State.{State}
-use Rattle.builder.specs.Rule.{Row, row, reach, count, distances, sum, nextGate, greedy, taken}
+use Rattle.builder.specs.Rule.{Row, row, reach, distances, sum, nextGate, greedy, taken}
 
 -- the rows of a list of masks and a list of limits
 abbrev pub rowsOf : List ℕ → List ℕ → List Row
@@ -45,16 +45,8 @@ Capped h = (j : ℕ) → getD h j 0 ≤ far
 
 -- the table of a base, as far as it is kept up: the sizes below `sizes`, which are those that some row still asks
 pub record Held (h : List ℕ) (ls : List Line) (sizes : ℕ) : Type 0 where
-  pub at : (k t : ℕ) → k < sizes → t < 256 → getD h (k * 256 + t) 0 ≡ least k t ls
+  pub holds : Holds h ls sizes
   pub cap : Capped h
-  pub long : length h ≡ 2304
-
--- g is h after a line with mask m and cost c, in the entries below `end`
-pub record Refilled (h g : List ℕ) (m c end : ℕ) : Type 0 where
-  pub low : (j : ℕ) → j < 256 → getD g j 0 ≡ getD h j 0
-  pub done : (j : ℕ) → 256 ≤ j → j < end → getD g j 0 ≡ relaxed h m c j
-  pub cap : Capped g
-  pub long : length g ≡ 2304
 
 -- ---- the goals: what is still to be made, in three lists. A row with mask t at distance g + 1 has the place g * 256 + t, the room 2 ^ limit and the low g
 

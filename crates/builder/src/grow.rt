@@ -7,9 +7,9 @@ use crate::pairs::above;
 use crate::pairs::greatest_of;
 use crate::pairs::misses;
 use crate::pairs::next_gate;
-use crate::table::add_line;
-use crate::table::fill;
 use distance::table::cost;
+use distance::table::fill;
+use distance::table::take_in;
 
 // The lines so far, the rows' distances from them, and the operands of the gates taken.
 pub(crate) struct State {
@@ -66,7 +66,8 @@ fn turn(s: State, rows: &[u8], limits: &[u8], h: &[u32; 2304]) -> Turn
     )
 }
 
-// The state with the gate that reads lines a and b: the distances by the table before the new line, then the table.
+// The state with the gate that reads lines a and b: the distances by the table before the new line, then the table. Only
+// the sizes that some row still asks are kept up: distances never grow, so the others are never read again.
 fn add_gate(s: State, rows: &[u8], limits: &[u8], h: &mut [u32; 2304], a: usize, b: usize) -> State
     requires { ⌜ Poised (now rows) (now limits) s ⌝ ∗ ⌜ Tabled (now rows) (now limits) s (now h) ⌝ ∗ ⌜ Next (base s) (rowsOf (now rows) (now limits)) a b ⌝ ∗ ⌜ s .count < 224 ⌝ }
     ensures { λ r. ⌜ Stepped (now (rows .entry)) (now (limits .entry)) s r (now (h .exit)) a b ⌝ }
@@ -83,7 +84,7 @@ fn add_gate(s: State, rows: &[u8], limits: &[u8], h: &mut [u32; 2304], a: usize,
     let c = cost(depth);
     let gaps = lowered(&old[..rows.len()], rows, limits, h, m, c);
     let top = greatest_of(&gaps[..rows.len()]);
-    add_line(h, m, c, top as usize);
+    take_in(h, m, c, top as usize);
     masks[len] = m;
     depths[len] = depth;
     left[count] = a as u8;

@@ -3,7 +3,6 @@ mod grow; // grow.rt: the steps
 mod look; // look.rt: what is refused
 mod pairs; // pairs.rt: the choice of the next gate
 mod program; // program.rt: the inputs, the steps, the outputs
-mod table; // table.rt: the table that the choice looks distances up in
 
 ghost use mathlib.Core.Path.{_≡_};
 ghost use Rattle.builder.specs.Call.{planOf, Builds, BuildsNumbered};

@@ -3,7 +3,7 @@
 -- A promise that is an equation, `r ≡ x`, is under `determined`, whatever r is. These are:
 --   circuit:  gate::{eval_gate, second_read, and_weight, tally}, reader::{is_shape, check_gate, check_output, read}, restore::writing_code,
 --             and, in the first half of their promise, wide and refusal_no
---   distance: distance, distance_no, refusal_no, table::{cost, least_of, no_lines}
+--   distance: distance, distance_no, refusal_no, table::cost
 --   builder:  plan
 --   bench:    opening::empty, storing::circuit_of
 --   lent:     linked::allpawasi_distance
@@ -12,7 +12,7 @@
 --   |----------------------------------------------------------|---------------------------------------------------|
 --   | circuit writer::write                                    | write-determined                                  |
 --   | circuit restore::restored, linked::allpawasi_restore     | restore-determined                                |
---   | distance table::take_in                                  | take-in-determined                                |
+--   | distance table::take_in, table::fill                     | take-in-determined, fill-determined               |
 --   | builder build                                            | build-determined                                  |
 --   | builder build_no, linked::allpawasi_build                | build-number-determined                           |
 --   | bench and lent open_matrix, open_table                   | open-determined                                   |
@@ -36,7 +36,8 @@ use Rattle.circuit.specs.declared.Answer.{Answer}
 use Rattle.circuit.specs.declared.Writing.{Writing}
 use Rattle.circuit.specs.Writing.{Wrote, Restored}
 use Rattle.circuit.proofs.Back as writing
-use Rattle.distance.specs.Table.{Stepped}
+use Rattle.distance.specs.Base.{Line}
+use Rattle.distance.specs.Table.{Stepped, Filled}
 use Rattle.distance.proofs.Unique as distances
 use Rattle.builder.specs.Call.{Builds, BuildsNumbered}
 use Rattle.builder.proofs.Promise as building
@@ -70,8 +71,11 @@ pub restore-determined : (only : Bool) (bytes room : List ℕ) (r s : ℕ) (out 
     → (r ≡ s) × (out ≡ last)
 restore-determined only bytes room r s out last p q = (determined (p .answer) (q .answer), determined (p .bytes) (q .bytes))
 
-pub take-in-determined : (h r s : List ℕ) (m c : ℕ) → Stepped h r m c → Stepped h s m c → r ≡ s
+pub take-in-determined : (h r s : List ℕ) (m c end : ℕ) → Stepped h r m c end → Stepped h s m c end → r ≡ s
 take-in-determined = distances.take-in-unique
+
+pub fill-determined : (r s : List ℕ) (ls : List Line) (sizes : ℕ) → Filled r ls sizes → Filled s ls sizes → r ≡ s
+fill-determined = distances.fill-unique
 
 pub build-determined : (n : ℕ) (ts : List ℕ) (D : ℕ) (room : List ℕ) (r s : Writing) (out last : List ℕ) → Builds n ts D room r out → Builds n ts D room s last
     → (r ≡ s) × (out ≡ last)

@@ -5,16 +5,12 @@ use mathlib.Core.Path.{_≡_}
 use Prim.Native.Nat.{ℕ, zero, suc, _+_, _-_, _*_, _/_, _%_, _^_, _≤_, _<_, min}
 use lib.ListN.{length, getD, set, replicate}
 use lib.Bits.{bitXor}
-use lib.Dec.{ltb, eqb}
+use lib.Dec.{eqb}
 use Rattle.distance.specs.Base.{Line, lines, Shallow}
 
 -- 2 ^ 20, above every limit 2 ^ D: there is no such set
 abbrev pub far : ℕ
 far = 1048576
-
-abbrev pub pickCost : Bool → ℕ → ℕ → ℕ
-pickCost true x y = x
-pickCost false x y = y
 
 -- what a line of depth d costs in the array: 2 ^ d, and no more than far
 abbrev pub costAt : ℕ → ℕ
@@ -34,17 +30,17 @@ least (suc k) t (l ∷ ls) = min (least (suc k) t ls) (2 ^ (l .depth) + least k 
 
 -- ---- the array: 9 sizes by 256 masks, size k and mask t at k * 256 + t
 
--- the array holds the table of a base
-pub record Holds (h : List ℕ) (ls : List Line) : Type 0 where
-  pub at : (k t : ℕ) → k < 9 → t < 256 → getD h (k * 256 + t) 0 ≡ least k t ls
+-- the array holds the table of a base, for the sizes below `sizes`
+pub record Holds (h : List ℕ) (ls : List Line) (sizes : ℕ) : Type 0 where
+  pub at : (k t : ℕ) → k < sizes → t < 256 → getD h (k * 256 + t) 0 ≡ least k t ls
 
 -- the array of no lines
 unfoldable pub noLines : List ℕ
 noLines = set (replicate 2304 far) 0 0
 
--- what the array says of sets of k lines with mask t: of more than 8 lines, that there are none
-unfoldable pub entry : List ℕ → ℕ → ℕ → ℕ
-entry h k t = pickCost (ltb k 9) (getD h (k * 256 + t) 0) far
+-- where the entries of the sizes below `sizes` end: there are 9 sizes
+abbrev pub endOf : ℕ → ℕ
+endOf sizes = min sizes 9 * 256
 
 -- the entry of the sets that lack a line with mask m
 abbrev pub prev : ℕ → ℕ → ℕ
@@ -54,15 +50,21 @@ prev j m = (j / 256 - 1) * 256 + bitXor (j % 256) m
 unfoldable pub relaxed : List ℕ → ℕ → ℕ → ℕ → ℕ
 relaxed h m c j = min (getD h j 0) (getD h (prev j m) 0 + c)
 
--- the array g is h after a line with mask m and cost c
-pub record Stepped (h g : List ℕ) (m c : ℕ) : Type 0 where
+-- the array g is h after a line with mask m and cost c, in the entries below `end`
+pub record Stepped (h g : List ℕ) (m c end : ℕ) : Type 0 where
   pub low : (j : ℕ) → j < 256 → getD g j 0 ≡ getD h j 0
-  pub high : (j : ℕ) → 256 ≤ j → j < 2304 → getD g j 0 ≡ relaxed h m c j
-  pub rest : (j : ℕ) → 2304 ≤ j → getD g j 0 ≡ getD h j 0
+  pub high : (j : ℕ) → 256 ≤ j → j < end → getD g j 0 ≡ relaxed h m c j
+  pub rest : (j : ℕ) → end ≤ j → getD g j 0 ≡ getD h j 0
   pub long : length g ≡ length h
 
--- a base in two lists with its array: what the search is run on
-pub record Ready (ms ds h : List ℕ) : Type 0 where
+-- the whole array of a base that is filled for the sizes below `sizes`: the entries of the others are those of no lines
+pub record Filled (h : List ℕ) (ls : List Line) (sizes : ℕ) : Type 0 where
+  pub holds : Holds h ls (min sizes 9)
+  pub rest : (j : ℕ) → endOf sizes ≤ j → getD h j 0 ≡ getD noLines j 0
+  pub long : length h ≡ length noLines
+
+-- a base in two lists with its array: what the search for sets of k lines is run on
+pub record Ready (ms ds h : List ℕ) (k : ℕ) : Type 0 where
   pub even : length ms ≡ length ds
   pub shallow : Shallow ds
-  pub holds : Holds h (lines ms ds)
+  pub holds : Holds h (lines ms ds) k

@@ -3,7 +3,7 @@ use mathlib.Core.Path.{sym}
 use Prim.Native.Nat.{_<_}
 use native.Mathlib.Omega.{arith}
 use lib.Seq.{length-take-le}
-use Rattle.builder.proofs.Steps.{first-in, second-in, gaps-wide, lowering, next-wide, refilling-asks, stepped}
+use Rattle.builder.proofs.Steps.{first-in, second-in, gaps-wide, lowering, next-wide, stepped}
 use borrow.Author.Needs.{needs}
 use Rattle.builder.proofs.grow.add_gate.Statement.{statement}
 use Rattle.builder.proofs.grow.add_gate.Tie as tie
@@ -51,13 +51,11 @@ slice-aggregate-greatest-of c = sym (length-take-le _ _ (omega (arith, c .before
 greatest-of-requires : tie.Need-greatest-of-requires
 greatest-of-requires c κs = search needs
 
-cast-add-line : tie.Need-cast-add-line
-cast-add-line c = search needs
+cast-take-in : tie.Need-cast-take-in
+cast-take-in c = search needs
 
-add-line-requires : tie.Need-add-line-requires
-add-line-requires c κs =
-    let q = refilling-asks (c .before .before .before .before .before .before .before .before .before .before .before .before .before .before .before .args .rows .now) (c .before .before .before .before .before .before .before .before .before .before .before .before .before .before .before .args .limits .now) (c .before .before .before .before .before .before .before .before .before .before .before .before .before .before .before .args .s) (c .before .before .before .before .before .before .before .before .before .before .before .before .before .before .before .pre .0) (c .before .before .before .before .before .before .before .before .before .before .before .before .before .before .before .args .h .now) (c .before .before .before .before .before .before .before .before .before .before .before .before .before .before .before .pre .1 .0) (c .before .before .before .before .before .before .before .before .before .before .before .before .before .before .before .args .a) (c .before .before .before .before .before .before .before .before .before .before .before .before .before .before .before .args .b) (c .before .before .before .before .before .before .before .before .before .before .before .before .before .before .before .pre .1 .1 .0) (c .before .before .before .before .before .before .before .above .result) (c .before .before .before .before .before .before .cost .result) (c .before .before .before .before .before .before .before .above .ensures) (c .before .before .before .before .before .before .cost .ensures) (λ k. c .before .before .before .before .before .before .before .before .before .before .before .before .before .before .shared-slice-known .given k .fits) (c .before .before .before .lowered .result) (c .before .before .before .lowered .ensures) (c .before .greatest-of .result) (c .before .greatest-of .ensures) in
-    (q .0, (q .1, (q .2, q .3)))
+take-in-requires : tie.Need-take-in-requires
+take-in-requires c κs = search needs
 
 array-write-masks : tie.Need-array-write-masks
 array-write-masks c = search needs
@@ -84,7 +82,7 @@ add-t50 : tie.Need-add-t50
 add-t50 c = search needs
 
 returns : tie.Need-returns
-returns c = stepped (c .before .before .before .before .before .before .before .before .before .before .before .before .before .before .before .before .args .rows .now) (c .before .before .before .before .before .before .before .before .before .before .before .before .before .before .before .before .args .limits .now) (c .before .before .before .before .before .before .before .before .before .before .before .before .before .before .before .before .args .s) (c .before .before .before .before .before .before .before .before .before .before .before .before .before .before .before .before .pre .0) (c .before .before .before .before .before .before .before .before .before .before .before .before .before .before .before .before .args .h .now) (c .before .before .before .before .before .before .before .before .before .before .before .before .before .before .before .before .pre .1 .0) (c .before .before .before .before .before .before .before .before .before .before .before .before .before .before .before .before .args .a) (c .before .before .before .before .before .before .before .before .before .before .before .before .before .before .before .before .args .b) (c .before .before .before .before .before .before .before .before .before .before .before .before .before .before .before .before .pre .1 .1 .0) (c .before .before .before .before .before .before .before .before .above .result) (c .before .before .before .before .before .before .before .cost .result) (c .before .before .before .before .before .before .before .before .above .ensures) (c .before .before .before .before .before .before .before .cost .ensures) (λ k. c .before .before .before .before .before .before .before .before .before .before .before .before .before .before .before .shared-slice-known .given k .fits) (c .before .before .before .before .lowered .result) (c .before .before .before .before .lowered .ensures) (c .before .before .greatest-of .result) (c .before .before .greatest-of .ensures) _ (c .add-line .ensures)
+returns c = stepped (c .before .before .before .before .before .before .before .before .before .before .before .before .before .before .before .before .args .rows .now) (c .before .before .before .before .before .before .before .before .before .before .before .before .before .before .before .before .args .limits .now) (c .before .before .before .before .before .before .before .before .before .before .before .before .before .before .before .before .args .s) (c .before .before .before .before .before .before .before .before .before .before .before .before .before .before .before .before .pre .0) (c .before .before .before .before .before .before .before .before .before .before .before .before .before .before .before .before .args .h .now) (c .before .before .before .before .before .before .before .before .before .before .before .before .before .before .before .before .pre .1 .0) (c .before .before .before .before .before .before .before .before .before .before .before .before .before .before .before .before .args .a) (c .before .before .before .before .before .before .before .before .before .before .before .before .before .before .before .before .args .b) (c .before .before .before .before .before .before .before .before .before .before .before .before .before .before .before .before .pre .1 .1 .0) (c .before .before .before .before .before .before .before .before .above .result) (c .before .before .before .before .before .before .before .cost .result) (c .before .before .before .before .before .before .before .before .above .ensures) (c .before .before .before .before .before .before .before .cost .ensures) (λ k. c .before .before .before .before .before .before .before .before .before .before .before .before .before .before .before .shared-slice-known .given k .fits) (c .before .before .before .before .lowered .result) (c .before .before .before .before .lowered .ensures) (c .before .before .greatest-of .result) (c .before .before .greatest-of .ensures) _ (c .take-in .ensures)
 
 pub add-gate-spec : {M : Type 1} → statement M
 add-gate-spec =
@@ -102,8 +100,8 @@ add-gate-spec =
     array-share-prefix-gaps
     slice-aggregate-greatest-of
     greatest-of-requires
-    cast-add-line
-    add-line-requires
+    cast-take-in
+    take-in-requires
     array-write-masks
     array-write-depths
     cast-left

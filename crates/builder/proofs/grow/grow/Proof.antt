@@ -1,13 +1,14 @@
 -- `grow` meets its contract: the state stands for the gates taken so far, and the table is that of its base.
 use mathlib.Core.Path.{_≡_, sym, ap, _∙_, subst}
-use Prim.Native.Nat.{_-_}
+use Prim.Native.Nat.{_-_, _≤_}
 use native.Mathlib.Omega.{arith}
 use borrow.Author.Needs.{needs}
 use lib.Seq.{length-take-le}
 use Rattle.circuit.specs.Lines.{greatest}
 use Rattle.builder.specs.Rule.{distances}
 use Rattle.builder.specs.Kept.{rowsOf, base, Held, Stands, Tabled}
-use Rattle.builder.proofs.Steps.{gaps-wide, gaps-taken, filling, top-le, stands-next, grown-over, grown-end}
+use Rattle.builder.proofs.KeptUp.{held-filled}
+use Rattle.builder.proofs.Steps.{gaps-wide, gaps-taken, top-le, stands-next, grown-over, grown-end}
 use Rattle.builder.proofs.grow.grow.Statement.{statement}
 use Rattle.builder.proofs.grow.grow.Tie as tie
 
@@ -46,13 +47,15 @@ cast-fill : tie.Need-cast-fill Inv-loop μ-loop
 cast-fill c = search needs
 
 fill-requires : tie.Need-fill-requires Inv-loop μ-loop
-fill-requires c κs =
-    let q = filling (c .before .before .before .before .before .before .before .before .before .args .rows .now) (c .before .before .before .before .before .before .before .before .before .args .limits .now) (c .before .before .before .before .before .before .before .before .before .args .start) (c .before .before .before .before .before .before .before .before .before .pre .poised) in
-    (q .0, (q .1, omega (arith, top-is (c .before .before), top-le (c .before .before .before .before .before .before .before .before .before .args .rows .now) (c .before .before .before .before .before .before .before .before .before .args .limits .now) (c .before .before .before .before .before .before .before .before .before .args .start) (c .before .before .before .before .before .before .before .before .before .pre .poised))))
+fill-requires c κs = search needs
 
 loop-holds : tie.Need-loop-holds Inv-loop μ-loop
 unfolding base
-loop-holds c = (c .before .before .before .before .before .before .before .before .before .before .pre, subst (Held _ _) (top-is (c .before .before .before)) (c .fill .ensures))
+loop-holds c =
+    let start = c .before .before .before .before .before .before .before .before .before .before in
+    let top = top-is (c .before .before .before) in
+    let nine : c .before .before .before .greatest-of .result ≤ 9 = omega (arith, top, top-le (start .args .rows .now) (start .args .limits .now) (start .args .start) (start .pre .poised)) in
+    (start .pre, subst (Held _ _) top (held-filled _ _ _ nine (c .fill .ensures)))
 
 turn-requires : tie.Need-turn-requires Inv-loop μ-loop
 turn-requires c κs = (c .before .before .before .loop .inv .0 .poised, c .before .before .before .loop .inv .1)

@@ -5,7 +5,6 @@ use native.Mathlib.Nat.{mul-le-mul}
 use native.Mathlib.Omega.{arith}
 use borrow.Author.Needs.{needs}
 use lib.ListN.{getD}
-use Rattle.builder.specs.Kept.{misses}
 use Rattle.builder.proofs.Goals.{Squared, squared-start, squared-more, squared-end, gap-le}
 use Rattle.builder.proofs.pairs.square_sum.Statement.{statement}
 use Rattle.builder.proofs.pairs.square_sum.Tie as tie

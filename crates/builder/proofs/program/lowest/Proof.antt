@@ -2,6 +2,7 @@
 use mathlib.Core.Logic.{⊎-elim}
 use mathlib.Core.Path.{_≡_, refl, sym, _∙_}
 use Prim.Native.Nat.{_-_}
+use native.Mathlib.Omega.{arith}
 use borrow.Author.Needs.{needs}
 use lib.ListN.{drop}
 use Rattle.distance.specs.Base.{lines}
@@ -26,7 +27,7 @@ shared-slice-read-if2 : tie.Need-shared-slice-read-if2 Inv-loop μ-loop
 shared-slice-read-if2 c = search needs
 
 returns : tie.Need-returns Inv-loop μ-loop
-returns c = sym (c .before .before .before .before .before .loop .inv ∙ low-hit (c .before .before .before .before .before .before .args .masks .now) (c .before .before .before .before .before .before .args .depths .now) (row (c .before .before .before .before .before .before .args .t) (c .before .before .before .before .before .before .args .limit)) (c .before .before .before .before .before .loop .i) (c .before .before .before .before .before .before .pre) (c .before .before .before .before .loop-test .taken) (c .before .before .if1 .taken) (c .if2 .taken))
+returns c = sym (c .before .before .before .before .before .loop .inv ∙ low-hit (c .before .before .before .before .before .before .args .masks .now) (c .before .before .before .before .before .before .args .depths .now) (row (c .before .before .before .before .before .before .args .t) (c .before .before .before .before .before .before .args .limit)) (c .before .before .before .before .before .loop .i) (c .before .before .before .before .before .before .pre) (c .before .before .before .before .loop-test .taken) (c .before .before .if1 .taken) (omega (arith, c .if2 .taken)))
 
 add-i : tie.Need-add-i Inv-loop μ-loop
 add-i c = search needs
@@ -39,7 +40,7 @@ loop-again c =
     let a = c .before .before .before .before .args in
     c .before .before .before .loop .inv
     ∙ ⊎-elim
-    (λ w. low-deep (a .masks .now) (a .depths .now) (row (a .t) (a .limit)) (c .before .before .before .loop .i) (c .before .before .before .before .pre) (c .before .before .loop-test .taken) (w .0 .taken) (w .2 .left))
+    (λ w. low-deep (a .masks .now) (a .depths .now) (row (a .t) (a .limit)) (c .before .before .before .loop .i) (c .before .before .before .before .pre) (c .before .before .loop-test .taken) (w .0 .taken) (omega (arith, w .2 .left)))
     (λ w. low-other (a .masks .now) (a .depths .now) (row (a .t) (a .limit)) (c .before .before .before .loop .i) (c .before .before .before .before .pre) (c .before .before .loop-test .taken) (w .left)) (c .if1 .came)
 
 returns-2 : tie.Need-returns-2 Inv-loop μ-loop

@@ -7,7 +7,6 @@ use lib.ListN.{length, take, replicate, length-replicate}
 use lib.Seq.{length-take-le}
 use Rattle.distance.specs.Base.{Line, inputs}
 use Rattle.builder.specs.Rule.{Row, lowest}
-use Rattle.builder.specs.Call.{within}
 use Rattle.builder.specs.Kept.{rowsOf, padded, base, Grown, Fit}
 use Rattle.builder.proofs.Refusals.{Accepted, accepted, fit}
 use Rattle.builder.proofs.Begin.{rows-within, begun-base, stands, circuit-held}
