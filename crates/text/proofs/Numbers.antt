@@ -14,7 +14,7 @@ use lib.Seq.{drop-cons, take-suc}
 use Rattle.io.specs.Digits.{digits, glyph, Fewest}
 use Rattle.text.specs.declared.Number.{Number}
 use Rattle.text.specs.declared.Number.the-variants.{Value, Not}
-use Rattle.text.specs.Numbers.{isDigit, numFrom, numberIn, nibbleOf, allHex, hexBytes, hexText, glyphOf, decText, numbersText, decimalText}
+use Rattle.text.specs.Numbers.{isDigit, numFrom, numberIn, nibbleOf, allHex, hexBytes, bytesSaid, hexText, glyphOf, decText, decimalText, numbered, numbersText}
 use Rattle.text.proofs.Places.{both}
 
 -- ---- reading a decimal number
@@ -90,6 +90,16 @@ unfolding allHex
 all-digit [] i e h = absurd (omega arith)
 all-digit (x ∷ xs) zero e h = ltb-true _ _ (both _ e .0)
 all-digit (x ∷ xs) (suc i) e h = all-digit xs i (both (ltb (nibbleOf x) 16) e .1) (omega arith)
+
+-- digits all of which are hexadecimal
+pub bytes-said : (s : List ℕ) → allHex s ≡ true → bytesSaid s ≡ hexBytes s
+unfolding bytesSaid
+bytes-said s e = ap (λ (t : Bool). cond t (hexBytes s) []) e
+
+-- digits not all of which are
+pub none-said : (s : List ℕ) → allHex s ≡ false → bytesSaid s ≡ []
+unfolding bytesSaid
+none-said s e = ap (λ (t : Bool). cond t (hexBytes s) []) e
 
 pub bytes-length : (s : List ℕ) → length (hexBytes s) ≡ length s / 2
 unfolding hexBytes
@@ -172,21 +182,25 @@ short-text (suc f) (suc k) n h = by (decLt n 10) (short-text f k (n / 10)) where
       let p : 10 ^ suc (suc k) ≡ 10 ^ suc k * 10 = pow-suc 10 (suc k) in
       rw (le-ltb n 10 (omega (arith, l))) (omega (arith, length-append (decText f (n / 10)) ((48 + n % 10) ∷ []), less (omega arith)))
 
+-- no number below 2^64 has more than 20 digits
+pub decimal-short : (n : ℕ) → n < 2 ^ 64 → length (decimalText n) ≤ 20
+decimal-short n h = short-text 20 19 n (omega arith)
+
+-- a letter and a number below 256 take at most four bytes
+pub numbered-short : (letter k : ℕ) → k < 256 → length (numbered letter k) ≤ 4
+numbered-short letter k h = omega (arith, short-text 20 2 k (omega arith))
+
 -- ---- a list of numbers
 
+-- the numbers of two lists, one after the other
 numbers-append : (a b : List ℕ) → numbersText (a ++ b) ≡ numbersText a ++ numbersText b
 unfolding numbersText
 numbers-append [] b = refl
-numbers-append (x ∷ a) b =
-    ap (λ (l : List ℕ). (32 ∷ []) ++ decimalText x ++ l) (numbers-append a b) ∙ sym (append-assoc ((32 ∷ []) ++ decimalText x) (numbersText a) (numbersText b))
+numbers-append (x ∷ a) b = ap (λ (l : List ℕ). numbered 32 x ++ l) (numbers-append a b) ∙ sym (append-assoc (numbered 32 x) (numbersText a) (numbersText b))
 
 -- one number more
-pub numbers-next : (ns : List ℕ) (i x : ℕ) → i < length ns → x ≡ getD ns i 0
-    → (numbersText (take i ns) ++ (32 ∷ [])) ++ decimalText x ≡ numbersText (take (i + 1) ns)
+pub numbers-next : (ns : List ℕ) (i : ℕ) → i < length ns → numbersText (take i ns) ++ numbered 32 (getD ns i 0) ≡ numbersText (take (i + 1) ns)
 unfolding numbersText
-numbers-next ns i x h e =
-    let before = numbersText (take i ns) in
-    let last = (32 ∷ []) ++ decimalText (getD ns i 0) in
-    ap (λ (y : ℕ). (before ++ (32 ∷ [])) ++ decimalText y) e ∙ append-assoc before (32 ∷ []) (decimalText (getD ns i 0))
-    ∙ sym (ap (λ (k : ℕ). numbersText (take k ns)) (add-one i) ∙ ap numbersText (take-suc ns i 0 h) ∙ numbers-append (take i ns) (getD ns i 0 ∷ [])
-    ∙ ap (λ (l : List ℕ). before ++ l) (append-nil last))
+numbers-next ns i h =
+    sym (ap (λ (k : ℕ). numbersText (take k ns)) (add-one i) ∙ ap numbersText (take-suc ns i 0 h) ∙ numbers-append (take i ns) (getD ns i 0 ∷ [])
+    ∙ ap (λ (l : List ℕ). numbersText (take i ns) ++ l) (append-nil (numbered 32 (getD ns i 0))))

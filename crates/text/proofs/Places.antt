@@ -2,7 +2,7 @@
 use mathlib.Core.Path.{_≡_, refl, ap, _∙_, sym}
 use mathlib.Core.Bool.{Bool, true, false, cond, not}
 use mathlib.Core.List.{List, [], _∷_}
-use Prim.Native.Nat.{ℕ, suc, _+_, _-_, _≤_, _<_}
+use Prim.Native.Nat.{ℕ, suc, _+_, _-_, _≤_, _<_, max}
 use native.Mathlib.Omega.{arith}
 use native.Mathlib.Numerals.{add-one}
 use lib.Dec.{eqb}
@@ -84,13 +84,15 @@ trim-cr s e = simp (eq-eqb _ _ e)
 pub trim-no : (s : List ℕ) → (getD s (length s - 1) 0 ≡ 13 → ⊥) → length s ≡ trimLen s
 trim-no s e = simp (ne-eqb _ _ e)
 
-pub next-of : (line : List ℕ) (at p q : ℕ) → at ≤ length line → p ≡ at + past 32 (drop at line) → q ≡ p + upTo 32 (drop p line) → Next line at p q
+-- what `skip` and `find` answer are the places of a word
+pub next-of : (line : List ℕ) (at p q : ℕ) → p ≡ at + past 32 (drop at line) → q ≡ p + upTo 32 (drop p line) → Next line at p q
 unfolding headWord tailWords
-next-of line at p q h hp hq =
+next-of line at p q hp hq =
     let n : q - p ≡ upTo 32 (drop p line) = omega arith in
     let e : drop p line ≡ skipped (drop at line) = ap (λ (k : ℕ). drop k line) hp ∙ sym (drop-drop (past 32 (drop at line)) at line) in
-    let pl : p ≤ length line = omega (arith, run-le (λ (x : ℕ). eqb x 32) (drop at line), length-drop at line) in
+    let pl : p ≤ max at (length line) = omega (arith, run-le (λ (x : ℕ). eqb x 32) (drop at line), length-drop at line) in
     record {
+      starts = omega arith;
       order = omega arith;
       inside = omega (arith, run-le (λ (x : ℕ). not (eqb x 32)) (drop p line), length-drop p line);
       word = ap (λ (k : ℕ). take k (drop p line)) n ∙ ap (λ (l : List ℕ). take (upTo 32 l) l) e;
@@ -99,4 +101,4 @@ next-of line at p q h hp hq =
 
 -- a word is as long as its places say
 pub part-length : (line : List ℕ) (at p q : ℕ) → Next line at p q → length (take (q - p) (drop p line)) ≡ q - p
-part-length line at p q n = length-take-le (q - p) (drop p line) (omega (arith, length-drop p line, n .order, n .inside))
+part-length line at p q n = length-take-le (q - p) (drop p line) (omega (arith, length-drop p line, n .starts, n .order, n .inside))
