@@ -46,18 +46,22 @@ run-le p (x ∷ xs) = by (p x) (run-le p xs) where
 -- ---- comparing
 
 module _ (a b : List ℕ) (i : ℕ) (h : i < length a) (k : i < length b) where
+  -- two bytes differ
   pub same-not : (getD a i 0 ≡ getD b i 0 → ⊥) → false ≡ sameList (drop i a) (drop i b)
   unfolding sameList
   same-not e = rw (drop-cons a i 0, drop-cons b i 0, ne-eqb _ _ e)
 
+  -- two bytes are the same
   pub same-next : getD a i 0 ≡ getD b i 0 → sameList (drop i a) (drop i b) ≡ sameList (drop (i + 1) a) (drop (i + 1) b)
   unfolding sameList
   same-next e = rw (add-one, drop-cons a i 0, drop-cons b i 0, eq-eqb _ _ e)
 
+-- no byte is left of either
 pub same-end : (a b : List ℕ) (i : ℕ) → length a ≤ i → length b ≤ i → true ≡ sameList (drop i a) (drop i b)
 unfolding sameList
 same-end a b i h k = rw (drop-of-length-le a h, drop-of-length-le b k)
 
+-- texts that are the same are as long
 pub same-length : (a b : List ℕ) → sameList a b ≡ true → length a ≡ length b
 unfolding sameList
 same-length [] [] e = refl
@@ -65,22 +69,27 @@ same-length [] (y ∷ ys) e = let z : _≡_ {A = ℕ} 0 1 = cc in absurd (omega 
 same-length (x ∷ xs) [] e = let z : _≡_ {A = ℕ} 0 1 = cc in absurd (omega arith)
 same-length (x ∷ xs) (y ∷ ys) e = ap suc (same-length xs ys (both (eqb x y) e .1))
 
+-- a test that is not true is false
 false-of : (t : Bool) → (t ≡ true → ⊥) → false ≡ t
 false-of true h = absurd (h refl)
 false-of false h = refl
 
+-- texts that are not as long are not the same
 pub unlike : (a b : List ℕ) → (length a ≡ length b → ⊥) → false ≡ sameList a b
 unlike a b h = false-of _ (λ e. h (same-length a b e))
 
 -- ---- lines and words
 
+-- an empty line
 pub trim-none : (s : List ℕ) → length s < 1 → 0 ≡ trimLen s
 trim-none [] h = refl
 trim-none (x ∷ xs) h = absurd (omega arith)
 
+-- a line with a CR at its end
 pub trim-cr : (s : List ℕ) → getD s (length s - 1) 0 ≡ 13 → length s - 1 ≡ trimLen s
 trim-cr s e = simp (eq-eqb _ _ e)
 
+-- a line with none
 pub trim-no : (s : List ℕ) → (getD s (length s - 1) 0 ≡ 13 → ⊥) → length s ≡ trimLen s
 trim-no s e = simp (ne-eqb _ _ e)
 

@@ -228,6 +228,7 @@ pub fn put_numbered(room: &mut [u8], at: usize, letter: u8, x: u8) -> usize
 pub fn put_numbers(room: &mut [u8], at: usize, numbers: &[u8]) -> usize
     ensures { λ r. ⌜ PutFree (now (room .entry)) at (4 * length (now (numbers .entry))) (numbersText (now (numbers .entry))) (now (room .exit)) r ⌝ }
 {
+    // 4 times the count is tested in this form first, since it may be larger than any usize
     if room.len() / 4 < numbers.len() {
         return at;
     }
