@@ -3,22 +3,18 @@ use mathlib.Core.Path.{_≡_, refl, ap, ap₂, _∙_, sym}
 use mathlib.Core.Bool.{Bool, true, false, cond}
 use mathlib.Core.Logic.{⊎-elim}
 use mathlib.Core.List.{List, [], _∷_, _++_}
-use Prim.Native.Nat.{ℕ, zero, suc, _+_, _≤_, _<_}
+use Prim.Native.Nat.{ℕ, zero, suc, _+_, _<_}
 use native.Mathlib.Omega.{arith}
 use native.Mathlib.Nat.{eq-or-lt-of-le}
 use native.Mathlib.Numerals.{add-one}
-use lib.Dec.{leb}
-use borrow.Author.Tests.{le-leb}
-use lib.ListN.{length, getD, List·getD-append}
+use lib.ListN.{getD, List·getD-append}
 use lib.Seq.{getD-at}
 use Rattle.circuit.specs.declared.Circuit.{Circuit}
 use Rattle.circuit.specs.Lines.{upto, gateAt, noGate}
 use Rattle.circuit.specs.Stored.{gateOf, outOf, listed}
 use Rattle.circuit.specs.Reading.{shaped}
 use Rattle.circuit.proofs.Over.{upto-length}
-use Rattle.text.specs.Putting.{Put}
-use Rattle.text.proofs.Putting.{put-as}
-use Rattle.listing.specs.Printed.{gateLine, outputLine, linesTo, gatesText, outputsText, linesText, linesIn, whereFree}
+use Rattle.listing.specs.Printed.{gateLine, outputLine, linesTo, gatesText, outputsText, linesText, linesIn}
 
 -- one line more
 pub lines-next : (f : ℕ → List ℕ) (j : ℕ) → linesTo f j ++ f j ≡ linesTo f (j + 1)
@@ -68,16 +64,3 @@ all-lines c e = (λ i. gates-listed c i ++ outputs-listed c i) ∙ sym (ap (λ (
 pub no-lines : (c : Circuit) → shaped (c .n) (c .m) (c .g) ≡ false → [] ≡ linesIn c
 unfolding linesIn
 no-lines c e = sym (ap (λ (t : Bool). cond t (linesText (listed c)) []) e)
-
--- a text where there is room for it, and where there is none
-module _ (room at size : ℕ) (s : List ℕ) where
-  pub is-put : leb (at + size) room ≡ true → s ≡ whereFree room at size s
-  is-put e = sym (ap (λ (t : Bool). cond t s []) e)
-
-  pub not-put : leb (at + size) room ≡ false → [] ≡ whereFree room at size s
-  not-put e = sym (ap (λ (t : Bool). cond t s []) e)
-
--- a text that was put where there is room for it
-pub put-free : {before after : List ℕ} {at r : ℕ} (size : ℕ) (s : List ℕ) → at + size ≤ length before
-    → Put before at (whereFree (length before) at size s) after r → Put before at s after r
-put-free {before} {after} {at} size s h p = put-as (sym (is-put (length before) at size s (le-leb (at + size) (length before) h))) p

@@ -1,8 +1,8 @@
 -- A circuit as text, in lists of byte numbers: the counts, then a line for each gate and for each output.
 use mathlib.Core.Bool.{cond}
 use mathlib.Core.List.{List, [], _∷_, _++_}
-use Prim.Native.Nat.{ℕ, zero, suc, _+_, _-_}
-use lib.Dec.{ltb, leb}
+use Prim.Native.Nat.{ℕ, zero, suc, _-_}
+use lib.Dec.{ltb}
 use lib.ListN.{length, getD}
 use Rattle.circuit.specs.declared.Circuit.{Circuit}
 use Rattle.circuit.specs.Gate.{Kind, kindOf}
@@ -10,11 +10,7 @@ use Rattle.circuit.specs.Lines.{Gate, Listing, gateAt, depthOf}
 use Rattle.circuit.specs.Stored.{listed}
 use Rattle.circuit.specs.declared.Refusal.{Refusal}
 use Rattle.circuit.specs.Reading.{shaped, refusalNo}
-use Rattle.text.specs.Numbers.{decimalText}
-
--- a letter and a number, as `x0`
-abbrev pub numbered : ℕ → ℕ → List ℕ
-numbered letter k = (letter ∷ []) ++ decimalText k
+use Rattle.text.specs.Numbers.{labelled, numbered}
 
 -- the name of line i of a circuit with n inputs: `x` and its number for an input, `t` and k for gate k
 unfoldable pub lineName : ℕ → ℕ → List ℕ
@@ -75,10 +71,6 @@ outputsText c = linesTo (λ (j : ℕ). outputLine (c .inputs) j (getD (c .outs) 
 abbrev pub linesText : Listing → List ℕ
 linesText c = gatesText c ++ outputsText c
 
--- a label and a number
-abbrev pub labelled : List ℕ → ℕ → List ℕ
-labelled label x = label ++ decimalText x
-
 -- `inputs N outputs M gates G depth D`
 unfoldable pub countsText : ℕ → ℕ → ℕ → ℕ → List ℕ
 countsText n m g d =
@@ -98,10 +90,6 @@ refusedName = 114 ∷ 101 ∷ 102 ∷ 117 ∷ 115 ∷ 101 ∷ 100 ∷ 32 ∷ []
 -- `refused N`, with the refusal's number
 abbrev pub refusedText : Refusal → List ℕ
 refusedText w = labelled refusedName (refusalNo w) ++ newLine
-
--- a text that takes at most `size` bytes is put where as many are free in a room of that length, and else nothing
-abbrev pub whereFree : ℕ → ℕ → ℕ → List ℕ → List ℕ
-whereFree room at size s = cond (leb (at + size) room) s []
 
 -- the most that the counts take
 abbrev pub countsSize : ℕ

@@ -1,48 +1,39 @@
 // A circuit as text in a lent room, as the build program and the bench's `show` write it; its depth.
 ghost use mathlib.Core.Path.{_≡_};
 ghost use Prim.Native.Nat.{ℕ, _+_, _*_, _<_, _≤_, max};
-ghost use lib.Dec.{leb};
 ghost use lib.ListN.{length};
 ghost use Rattle.circuit.specs.Gate.{kindOf};
 ghost use Rattle.circuit.specs.Lines.{overall, depths};
 ghost use Rattle.circuit.specs.Stored.{gateOf, outOf};
-ghost use Rattle.text.specs.Putting.{Put};
-ghost use Rattle.listing.specs.Printed.{numbered, lineName, joined, turned, negated, formula, gateLine, outputLine, linesTo, labelled, countsText, refusedText, countsSize, linesSize, refusedSize, whereFree, linesIn, depthIn};
+ghost use Rattle.text.specs.Putting.{Put, PutFree};
+ghost use Rattle.listing.specs.Printed.{lineName, joined, turned, negated, formula, gateLine, outputLine, linesTo, countsText, refusedText, countsSize, linesSize, refusedSize, linesIn, depthIn};
 use circuit::Circuit;
 use circuit::Refusal;
 use circuit::gate::second_read;
 use circuit::reader::is_shape;
 use circuit::refusal_no;
 use circuit::wide;
-
-// A letter and a number below 256, as `t0`.
-fn put_numbered(room: &mut [u8], at: usize, letter: u8, k: usize) -> usize
-    requires { ⌜ (at + 21 ≤ length (now room)) × (k < 256) ⌝ }
-    ensures { λ r. ⌜ Put (now (room .entry)) at (numbered letter k) (now (room .exit)) r ⌝ }
-    ensures { λ r. ⌜ r ≤ at + 4 ⌝ }
-{
-    let name = [letter];
-    let next = text::put(room, at, &name);
-    text::put_decimal(room, next, k as u64)
-}
+use text::is_free;
+use text::put_labelled;
+use text::put_numbered;
 
 // The name of a line of a circuit with n inputs.
 fn put_name(room: &mut [u8], at: usize, n: usize, line: u8) -> usize
-    requires { ⌜ at + 21 ≤ length (now room) ⌝ }
+    requires { ⌜ at + 4 ≤ length (now room) ⌝ }
     ensures { λ r. ⌜ Put (now (room .entry)) at (lineName n line) (now (room .exit)) r ⌝ }
     ensures { λ r. ⌜ r ≤ at + 4 ⌝ }
 {
     let i = wide(line);
     if i < n {
-        put_numbered(room, at, b'x', i)
+        put_numbered(room, at, b'x', line)
     } else {
-        put_numbered(room, at, b't', i - n)
+        put_numbered(room, at, b't', (i - n) as u8)
     }
 }
 
 // Two operands with a sign between them.
 fn put_joined(room: &mut [u8], at: usize, n: usize, left: u8, sign: u8, right: u8) -> usize
-    requires { ⌜ at + 32 ≤ length (now room) ⌝ }
+    requires { ⌜ at + 11 ≤ length (now room) ⌝ }
     ensures { λ r. ⌜ Put (now (room .entry)) at (joined (lineName n left) sign (lineName n right)) (now (room .exit)) r ⌝ }
     ensures { λ r. ⌜ r ≤ at + 11 ⌝ }
 {
@@ -54,7 +45,7 @@ fn put_joined(room: &mut [u8], at: usize, n: usize, left: u8, sign: u8, right: u
 
 // The same turned over.
 fn put_turned(room: &mut [u8], at: usize, n: usize, left: u8, sign: u8, right: u8) -> usize
-    requires { ⌜ at + 36 ≤ length (now room) ⌝ }
+    requires { ⌜ at + 14 ≤ length (now room) ⌝ }
     ensures { λ r. ⌜ Put (now (room .entry)) at (turned (lineName n left) sign (lineName n right)) (now (room .exit)) r ⌝ }
     ensures { λ r. ⌜ r ≤ at + 14 ⌝ }
 {
@@ -65,7 +56,7 @@ fn put_turned(room: &mut [u8], at: usize, n: usize, left: u8, sign: u8, right: u
 
 // NOT of one operand.
 fn put_not(room: &mut [u8], at: usize, n: usize, line: u8) -> usize
-    requires { ⌜ at + 22 ≤ length (now room) ⌝ }
+    requires { ⌜ at + 5 ≤ length (now room) ⌝ }
     ensures { λ r. ⌜ Put (now (room .entry)) at (negated (lineName n line)) (now (room .exit)) r ⌝ }
     ensures { λ r. ⌜ r ≤ at + 5 ⌝ }
 {
@@ -75,7 +66,7 @@ fn put_not(room: &mut [u8], at: usize, n: usize, line: u8) -> usize
 
 // The formula of a gate by its kind.
 fn put_formula(room: &mut [u8], at: usize, n: usize, kind: u8, left: u8, right: u8) -> usize
-    requires { ⌜ at + 36 ≤ length (now room) ⌝ }
+    requires { ⌜ at + 14 ≤ length (now room) ⌝ }
     ensures { λ r. ⌜ Put (now (room .entry)) at (formula (kindOf kind) (lineName n left) (lineName n right)) (now (room .exit)) r ⌝ }
     ensures { λ r. ⌜ r ≤ at + 14 ⌝ }
 {
@@ -107,11 +98,11 @@ fn put_formula(room: &mut [u8], at: usize, n: usize, kind: u8, left: u8, right: 
 
 // The line of gate k.
 fn put_gate(room: &mut [u8], at: usize, n: usize, k: usize, kind: u8, left: u8, right: u8) -> usize
-    requires { ⌜ (at + 64 ≤ length (now room)) × (k < 256) ⌝ }
+    requires { ⌜ (at + 22 ≤ length (now room)) × (k < 256) ⌝ }
     ensures { λ r. ⌜ Put (now (room .entry)) at (gateLine n k (record { kind = kind; left = left; right = right })) (now (room .exit)) r ⌝ }
     ensures { λ r. ⌜ r ≤ at + 22 ⌝ }
 {
-    let named = put_numbered(room, at, b't', k);
+    let named = put_numbered(room, at, b't', k as u8);
     let start = text::put(room, named, b" = ");
     let end = put_formula(room, start, n, kind, left, right);
     text::put(room, end, b"\n")
@@ -119,11 +110,11 @@ fn put_gate(room: &mut [u8], at: usize, n: usize, k: usize, kind: u8, left: u8, 
 
 // The line of output j.
 fn put_output(room: &mut [u8], at: usize, n: usize, j: usize, line: u8) -> usize
-    requires { ⌜ (at + 64 ≤ length (now room)) × (j < 256) ⌝ }
+    requires { ⌜ (at + 12 ≤ length (now room)) × (j < 256) ⌝ }
     ensures { λ r. ⌜ Put (now (room .entry)) at (outputLine n j line) (now (room .exit)) r ⌝ }
     ensures { λ r. ⌜ r ≤ at + 12 ⌝ }
 {
-    let named = put_numbered(room, at, b'y', j);
+    let named = put_numbered(room, at, b'y', j as u8);
     let start = text::put(room, named, b" = ");
     let end = put_name(room, start, n, line);
     text::put(room, end, b"\n")
@@ -131,7 +122,7 @@ fn put_output(room: &mut [u8], at: usize, n: usize, j: usize, line: u8) -> usize
 
 // The lines of the gates.
 fn put_gates(room: &mut [u8], at: usize, c: Circuit) -> usize
-    requires { ⌜ (at + 22 * c .g + 64 ≤ length (now room)) × (c .g ≤ 248) ⌝ }
+    requires { ⌜ (at + 22 * c .g ≤ length (now room)) × (c .g ≤ 248) ⌝ }
     ensures { λ r. ⌜ Put (now (room .entry)) at (linesTo (λ (k : ℕ). gateLine (c .n) k (gateOf c k)) (c .g)) (now (room .exit)) r ⌝ }
     ensures { λ r. ⌜ r ≤ at + 22 * c .g ⌝ }
 {
@@ -148,7 +139,7 @@ fn put_gates(room: &mut [u8], at: usize, c: Circuit) -> usize
 
 // The lines of the outputs.
 fn put_outputs(room: &mut [u8], at: usize, c: Circuit) -> usize
-    requires { ⌜ (at + 12 * c .m + 64 ≤ length (now room)) × (c .m ≤ 32) ⌝ }
+    requires { ⌜ (at + 12 * c .m ≤ length (now room)) × (c .m ≤ 32) ⌝ }
     ensures { λ r. ⌜ Put (now (room .entry)) at (linesTo (λ (j : ℕ). outputLine (c .n) j (outOf c j)) (c .m)) (now (room .exit)) r ⌝ }
     ensures { λ r. ⌜ r ≤ at + 12 * c .m ⌝ }
 {
@@ -161,29 +152,6 @@ fn put_outputs(room: &mut [u8], at: usize, c: Circuit) -> usize
         j += 1;
     }
     next
-}
-
-// Whether `size` bytes are free from `at` on in a room of `len`.
-fn is_free(len: usize, at: usize, size: usize) -> bool
-    ensures { λ r. ⌜ r ≡ leb (at + size) len ⌝ }
-{
-    if len < size {
-        return false;
-    }
-    if len - size < at {
-        return false;
-    }
-    true
-}
-
-// A label and a number.
-fn put_labelled(room: &mut [u8], at: usize, label: &[u8], x: usize) -> usize
-    requires { ⌜ at + length (now label) + 20 ≤ length (now room) ⌝ }
-    ensures { λ r. ⌜ Put (now (room .entry)) at (labelled (now (label .entry)) x) (now (room .exit)) r ⌝ }
-    ensures { λ r. ⌜ r ≤ at + length (now (label .entry)) + 20 ⌝ }
-{
-    let next = text::put(room, at, label);
-    text::put_decimal(room, next, x as u64)
 }
 
 // The counts that begin a listing, with no end of line, since `show` has more to say there.
@@ -200,44 +168,40 @@ fn put_four(room: &mut [u8], n: usize, m: usize, g: usize, depth: u8) -> usize
 
 // The counts at the start of the room, or nothing where it is shorter than 128 bytes.
 pub fn put_counts(room: &mut [u8], n: usize, m: usize, g: usize, depth: u8) -> usize
-    ensures { λ r. ⌜ Put (now (room .entry)) 0 (whereFree (length (now (room .entry))) 0 countsSize (countsText n m g depth)) (now (room .exit)) r ⌝ }
-    ensures { λ r. ⌜ r ≤ countsSize ⌝ }
+    ensures { λ r. ⌜ PutFree (now (room .entry)) 0 countsSize (countsText n m g depth) (now (room .exit)) r ⌝ }
 {
-    if is_free(room.len(), 0, 128) {
-        put_four(room, n, m, g, depth)
-    } else {
-        0
+    if !is_free(room.len(), 0, 128) {
+        return 0;
     }
+    put_four(room, n, m, g, depth)
 }
 
 // The lines of the gates, then of the outputs, from `at` on, or nothing where fewer than 6,000 bytes are free.
 pub fn put_lines(room: &mut [u8], at: usize, c: Circuit) -> usize
-    ensures { λ r. ⌜ Put (now (room .entry)) at (whereFree (length (now (room .entry))) at linesSize (linesIn c)) (now (room .exit)) r ⌝ }
-    ensures { λ r. ⌜ r ≤ at + linesSize ⌝ }
+    ensures { λ r. ⌜ PutFree (now (room .entry)) at linesSize (linesIn c) (now (room .exit)) r ⌝ }
 {
     let n = c.n;
     let m = c.m;
     let g = c.g;
-    if is_free(room.len(), at, 6000) {
-        if is_shape(n, m, g) {
-            let next = put_gates(room, at, c);
-            return put_outputs(room, next, c);
-        }
+    if !is_free(room.len(), at, 6000) {
+        return at;
     }
-    at
+    if !is_shape(n, m, g) {
+        return at;
+    }
+    let next = put_gates(room, at, c);
+    put_outputs(room, next, c)
 }
 
 // `refused` and the number at the start of the room, or nothing where it is shorter than 32 bytes.
 pub fn put_refused(room: &mut [u8], why: Refusal) -> usize
-    ensures { λ r. ⌜ Put (now (room .entry)) 0 (whereFree (length (now (room .entry))) 0 refusedSize (refusedText why)) (now (room .exit)) r ⌝ }
-    ensures { λ r. ⌜ r ≤ refusedSize ⌝ }
+    ensures { λ r. ⌜ PutFree (now (room .entry)) 0 refusedSize (refusedText why) (now (room .exit)) r ⌝ }
 {
-    if is_free(room.len(), 0, 32) {
-        let next = put_labelled(room, 0, b"refused ", refusal_no(why));
-        text::put(room, next, b"\n")
-    } else {
-        0
+    if !is_free(room.len(), 0, 32) {
+        return 0;
     }
+    let next = put_labelled(room, 0, b"refused ", refusal_no(why));
+    text::put(room, next, b"\n")
 }
 
 // One more than the deeper of two depths.

@@ -16,7 +16,7 @@ use Rattle.script.specs.Order.{unreadable, bytesOf}
 use Rattle.script.specs.Reading.{Rest, isPairs, isHex, hex}
 use Rattle.script.specs.Placed.{HexPart, HexParts}
 use Rattle.script.specs.Cursors.{Within, Took, TookHex}
-use Rattle.script.proofs.Steps.{word-after, word-test, took-none, took-word, took-lost}
+use Rattle.script.proofs.Steps.{word-inside, word-test, took-none, took-word, took-lost}
 
 -- ---- pairs of digits
 
@@ -86,8 +86,8 @@ module _ {line : List ℕ} {c : Cursor} (w : Within line c) where
     at-end p t =
         record {
           took = t;
-          place = empty-part line to (n .inside) (w .short);
-          after = omega (arith, word-after (w .inside) n, n .order);
+          place = empty-part line to (word-inside (w .inside) n) (w .short);
+          after = omega (arith, n .starts, n .order);
           ends = sym p;
         }
 
@@ -111,12 +111,12 @@ module _ {line : List ℕ} {c : Cursor} (w : Within line c) where
               place =
                   record {
                     order = n .order;
-                    inside = n .inside;
-                    short = omega (arith, n .inside, w .short);
+                    inside = word-inside (w .inside) n;
+                    short = omega (arith, word-inside (w .inside) n, w .short);
                     pairs = ap (λ (k : ℕ). k % 2) (sym (part-length line (c .at) from to n)) ∙ digits .0;
                     digits = digits .1;
                   };
-              after = word-after (w .inside) n;
+              after = n .starts;
               ends = refl;
             }
 

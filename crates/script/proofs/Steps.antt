@@ -2,10 +2,10 @@
 use mathlib.Core.Path.{_≡_, refl, ap, _∙_, sym}
 use mathlib.Core.Bool.{Bool, true, false, cond}
 use mathlib.Core.List.{List}
-use Prim.Native.Nat.{ℕ, _+_, _-_, _≤_, _<_}
+use Prim.Native.Nat.{ℕ, _-_, _≤_, _<_}
 use native.Mathlib.Omega.{arith}
 use borrow.Author.Tests.{lt-ltb, le-ltb, le-leb, lt-leb}
-use lib.ListN.{length, take, drop, length-drop, length-take}
+use lib.ListN.{length, take, drop}
 use Rattle.text.specs.declared.Number.{Number}
 use Rattle.text.specs.declared.Number.the-variants.{Value, Not}
 use Rattle.text.specs.Places.{headWord, tailWords, sameList, Next}
@@ -18,25 +18,9 @@ use Rattle.script.specs.Cursors.{onward, Took, Ends}
 
 -- ---- places
 
--- a word and what follows it are no longer than the whole
-parts-le : (s : List ℕ) → length (headWord s) + length (tailWords s) ≤ length s
-unfolding headWord tailWords
-parts-le s = simp (length-take, length-drop) (omega arith)
-
--- a word stands at or after the place where it was looked for
-pub word-after : {line : List ℕ} {at from to : ℕ} → at ≤ length line → Next line at from to → at ≤ from
-word-after {line} {at} {from} {to} h n =
-    omega (
-      arith,
-      parts-le (drop at line),
-      length-drop at line,
-      length-drop to line,
-      ap length (n .rest),
-      ap length (n .word),
-      part-length line at from to n,
-      n .order,
-      n .inside,
-    )
+-- a word that is looked for within a line ends there
+pub word-inside : {line : List ℕ} {at from to : ℕ} → at ≤ length line → Next line at from to → to ≤ length line
+word-inside h n = omega (arith, h, n .inside)
 
 -- a word is as long as its places say
 pub word-length : {line : List ℕ} {at from to : ℕ} → Next line at from to → length (headWord (drop at line)) ≡ to - from
@@ -66,8 +50,8 @@ module _ {A : Type 0} {word : (A → Rest) → Rest} {line : List ℕ} {c : Curs
     unfolding onward
     took-word w =
         record {
-          forward = omega (arith, word-after h n, n .order);
-          inside = n .inside;
+          forward = omega (arith, n .starts, n .order);
+          inside = word-inside h n;
           asks = λ f. rw e (w f ∙ ap (f value) (sym (n .rest)));
           kept = λ t. (e, n .rest);
         }
@@ -78,8 +62,8 @@ module _ {A : Type 0} {word : (A → Rest) → Rest} {line : List ℕ} {c : Curs
     unfolding onward
     took-lost w =
         record {
-          forward = omega (arith, word-after h n, n .order);
-          inside = n .inside;
+          forward = omega (arith, n .starts, n .order);
+          inside = word-inside h n;
           asks = λ f. rw e (w f);
           kept = clash refl;
         }

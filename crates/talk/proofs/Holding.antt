@@ -17,7 +17,8 @@ use Rattle.bench.specs.State.{State, Sound, Present, nothing, present}
 use Rattle.bench.specs.Held.{emptyBench, fullBench, Stands}
 use Rattle.bench.proofs.Standing.{full-standing}
 use Rattle.text.specs.Numbers.{hexText}
-use Rattle.listing.specs.Printed.{labelled, newLine, refusedText}
+use Rattle.text.specs.Numbers.{labelled}
+use Rattle.listing.specs.Printed.{newLine, refusedText}
 use Rattle.listing.proofs.Listed.{lines-same}
 use Rattle.talk.specs.Words.{heldName}
 use Rattle.talk.specs.Texts.{valueBytes, valueBits, byteOf, valuesText, groupText, lineOn, lineGroup, linesHeld, heldText}

@@ -8,9 +8,10 @@ use lib.Seq.{take-at, drop-at, length-take-le}
 use Rattle.script.specs.declared.Part.{Part}
 use Rattle.script.specs.Order.{digitsOf, bytesOf}
 use Rattle.script.specs.Placed.{HexPart}
-use Rattle.text.specs.Putting.{Put}
-use Rattle.text.proofs.Numbers.{bytes-length}
-use Rattle.text.proofs.Putting.{put-then, counted}
+use Rattle.text.specs.Numbers.{bytesSaid}
+use Rattle.text.specs.Putting.{Put, PutFree}
+use Rattle.text.proofs.Numbers.{bytes-length, bytes-said}
+use Rattle.text.proofs.Putting.{put-then, put-as, put-free, counted}
 use Rattle.talk.specs.Saying.{Laid}
 
 -- how many digits a part has
@@ -20,6 +21,11 @@ digits-long line p h = length-take-le (p .to - p .from) (drop (p .from) line) (o
 -- how many bytes they say
 pub bytes-long : (line : List ℕ) (p : Part) → HexPart line p → length (bytesOf line p) ≡ (p .to - p .from) / 2
 bytes-long line p h = bytes-length (digitsOf line p) ∙ ap (λ (n : ℕ). n / 2) (digits-long line p h)
+
+-- where there is room for them they are put
+pub bytes-put : (line : List ℕ) (p : Part) {before after : List ℕ} {at r : ℕ} → HexPart line p → at + (p .to - p .from) / 2 ≤ length before
+    → PutFree before at (length (digitsOf line p) / 2) (bytesSaid (digitsOf line p)) after r → Put before at (bytesOf line p) after r
+bytes-put line p h l u = put-as (bytes-said (digitsOf line p) (h .digits)) (put-free (omega (arith, digits-long line p h)) u)
 
 -- the second is put after the first
 pub laid : (line : List ℕ) (p q : Part) {before between after : List ℕ} {mid end : ℕ} → Put before 0 (bytesOf line p) between mid

@@ -19,7 +19,8 @@ use Rattle.bench.specs.declared.Reported.the-variants.{Given, NotGiven}
 use Rattle.bench.specs.Parts.{standing}
 use Rattle.script.specs.declared.Part.{Part}
 use Rattle.script.specs.Order.{bytesOf}
-use Rattle.listing.specs.Printed.{labelled, newLine, refusedText, countsText, linesIn, linesTo}
+use Rattle.text.specs.Numbers.{labelled}
+use Rattle.listing.specs.Printed.{newLine, refusedText, countsText, linesIn, linesTo}
 use Rattle.talk.specs.Words.{andDepthName, heldName}
 use Rattle.talk.specs.Texts.{verdictText, hexLine, writtenText, groupText, valuesText}
 

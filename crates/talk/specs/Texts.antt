@@ -20,8 +20,8 @@ use Rattle.bench.specs.declared.Reported.the-variants.{Given, NotGiven}
 use Rattle.bench.specs.declared.Edit.{Edit}
 use Rattle.bench.specs.State.{State, Present, nothing, present, verdictOf}
 use Rattle.bench.specs.Held.{packed}
-use Rattle.text.specs.Numbers.{hexText, numbersText}
-use Rattle.listing.specs.Printed.{labelled, newLine, refusedName, refusedText, countsText, linesText, linesTo}
+use Rattle.text.specs.Numbers.{hexText, labelled, numbered, numbersText}
+use Rattle.listing.specs.Printed.{newLine, refusedName, refusedText, countsText, linesText, linesTo}
 use Rattle.talk.specs.Words.{openedText, reportName, xorName, nonlinearName, notName, depthName, andDepthName, passName, wrongName, overGatesName, overDepthName, overAndDepthName, reworkedName, heldName, distanceName, noneName}
 
 -- VERDICT
@@ -99,7 +99,7 @@ valuesText value n = hexText (upto (byteOf value n) (valueBytes n))
 
 -- ` LINE:DEPTH:ANDDEPTH:VALUES`
 unfoldable pub groupText : ℕ → ℕ → ℕ → List ℕ → List ℕ
-groupText line depth ands hex = labelled (32 ∷ []) line ++ labelled (58 ∷ []) depth ++ labelled (58 ∷ []) ands ++ (58 ∷ []) ++ hex
+groupText line depth ands hex = numbered 32 line ++ numbered 58 depth ++ numbered 58 ands ++ (58 ∷ []) ++ hex
 
 -- the value of line i of a circuit on input value x
 abbrev pub lineOn : Listing → ℕ → ℕ → ℕ

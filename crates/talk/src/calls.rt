@@ -21,7 +21,6 @@ use crate::lines::say_edit;
 use crate::lines::say_opened;
 use crate::lines::say_reported;
 use crate::lines::say_written;
-use crate::pieces::at_most;
 use crate::show::say_show;
 use bench::Bench;
 use bench::Edited;
@@ -46,6 +45,7 @@ use script::LimitsEdit;
 use script::Opening;
 use script::OutputEdit;
 use script::Part;
+use text::at_most;
 
 // A line that is no call.
 pub(crate) fn tell_unreadable(b: Bench, out: &mut [u8; OUT]) -> Told

@@ -8,15 +8,14 @@ ghost use Rattle.talk.specs.Texts.{groupText, valuesText};
 ghost use Rattle.talk.specs.Saying.{Said, groupIn, linesHeldIn, heldIn};
 use crate::OUT;
 use crate::lines::say_refused;
-use crate::pieces::put_labelled;
-use crate::pieces::put_small;
 use crate::values::byte_count;
 use crate::values::value_bytes;
 use bench::Bench;
 use circuit::Refusal;
 use circuit::Words;
 use circuit::reader::is_shape;
-use circuit::wide;
+use text::put_labelled;
+use text::put_numbered;
 
 // A line's values in hex.
 fn put_values(room: &mut [u8], at: usize, w: Words, n: usize) -> usize
@@ -39,20 +38,20 @@ fn put_group(
     w: Words,
     n: usize,
 ) -> usize
-    requires { ⌜ (at + 96 ≤ length (now room)) × (line < 256) × (n ≤ 8) ⌝ }
+    requires { ⌜ (at + 80 ≤ length (now room)) × (line < 256) × (n ≤ 8) ⌝ }
     ensures { λ r. ⌜ Put (now (room .entry)) at (groupText line depth ands (valuesText (valueIn w) n)) (now (room .exit)) r ⌝ }
     ensures { λ r. ⌜ r ≤ at + 80 ⌝ }
 {
-    let named = put_small(room, at, b' ', line);
-    let deep = put_small(room, named, b':', wide(depth));
-    let anded = put_small(room, deep, b':', wide(ands));
+    let named = put_numbered(room, at, b' ', line as u8);
+    let deep = put_numbered(room, named, b':', depth);
+    let anded = put_numbered(room, deep, b':', ands);
     let start = text::put(room, anded, b":");
     put_values(room, start, w, n)
 }
 
 // A group for each line.
 fn put_groups(room: &mut [u8], at: usize, b: Bench) -> usize
-    requires { ⌜ (at + 80 * (b .n + b .g) + 96 ≤ length (now room)) × (b .n ≤ 8) × (b .g ≤ 248) ⌝ }
+    requires { ⌜ (at + 80 * (b .n + b .g) ≤ length (now room)) × (b .n ≤ 8) × (b .g ≤ 248) ⌝ }
     ensures { λ r. ⌜ Put (now (room .entry)) at (linesTo (groupIn b) (b .n + b .g)) (now (room .exit)) r ⌝ }
     ensures { λ r. ⌜ r ≤ at + 80 * (b .n + b .g) ⌝ }
 {

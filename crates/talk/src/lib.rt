@@ -5,7 +5,6 @@ use bench::Bench;
 use script::Call;
 use script::call_in;
 
-mod pieces; // pieces.rt: numbers with their labels, and verdicts
 mod lines; // lines.rt: the answers of one line
 mod values; // values.rt: a line's values as bytes
 mod held; // held.rt: what is held for each line

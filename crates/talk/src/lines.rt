@@ -1,24 +1,25 @@
 // The answers of one line: each is put first in the room.
-ghost use Prim.Native.Nat.{_≤_, min};
+ghost use Prim.Native.Nat.{_+_, _≤_, min};
 ghost use lib.ListN.{length, take};
 ghost use mathlib.Core.List.{_++_};
+ghost use Rattle.text.specs.Numbers.{labelled};
 ghost use Rattle.text.specs.Putting.{Put};
-ghost use Rattle.listing.specs.Printed.{labelled, newLine, refusedText};
-ghost use Rattle.talk.specs.Texts.{tallyText, reportText, reportedText, openText, reworkedText, editText, hexLine, distanceText};
+ghost use Rattle.listing.specs.Printed.{newLine, refusedText};
+ghost use Rattle.talk.specs.Texts.{verdictText, tallyText, reportText, reportedText, openText, reworkedText, editText, hexLine, distanceText};
 ghost use Rattle.talk.specs.Saying.{Said, storedMost, writtenIn};
 use crate::OUT;
 use crate::STORED;
-use crate::pieces::at_most;
-use crate::pieces::put_labelled;
-use crate::pieces::put_verdict;
 use bench::Edit;
 use bench::Report;
 use bench::Reported;
+use bench::Verdict;
 use circuit::Answer;
 use circuit::Refusal;
 use circuit::Tally;
 use circuit::Writing;
 use circuit::wide;
+use text::at_most;
+use text::put_labelled;
 
 // A fixed line.
 pub(crate) fn say(out: &mut [u8; OUT], line: &[u8]) -> usize
@@ -33,6 +34,24 @@ pub(crate) fn say_refused(out: &mut [u8; OUT], why: Refusal) -> usize
     ensures { λ r. ⌜ Said (now (out .exit)) r (refusedText why) ⌝ }
 {
     listing::put_refused(out, why)
+}
+
+// A verdict.
+pub(crate) fn put_verdict(room: &mut [u8], at: usize, verdict: Verdict) -> usize
+    requires { ⌜ at + 64 ≤ length (now room) ⌝ }
+    ensures { λ r. ⌜ Put (now (room .entry)) at (verdictText verdict) (now (room .exit)) r ⌝ }
+    ensures { λ r. ⌜ r ≤ at + 64 ⌝ }
+{
+    match verdict {
+        Verdict::Wrong(place) => {
+            let input = put_labelled(room, at, b"wrong ", place.input);
+            put_labelled(room, input, b" ", place.output)
+        }
+        Verdict::OverGates => text::put(room, at, b"over-gates"),
+        Verdict::OverDepth => text::put(room, at, b"over-depth"),
+        Verdict::OverAndDepth => text::put(room, at, b"over-anddepth"),
+        Verdict::Pass => text::put(room, at, b"pass"),
+    }
 }
 
 // The counts of a report.

@@ -1,13 +1,13 @@
 // The circuit on the screen, with its verdict.
 ghost use Rattle.talk.specs.Saying.{Said, shownWith, shownIn};
 use crate::OUT;
+use crate::lines::put_verdict;
 use crate::lines::say_refused;
-use crate::pieces::put_labelled;
-use crate::pieces::put_verdict;
 use bench::Report;
 use bench::Reported;
 use circuit::Circuit;
 use circuit::wide;
+use text::put_labelled;
 
 // The counts and both depths, the lines of gates and outputs, the verdict.
 fn say_circuit(out: &mut [u8; OUT], c: Circuit, r: Report) -> usize

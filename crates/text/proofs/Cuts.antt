@@ -7,6 +7,7 @@ use native.Mathlib.Omega.{arith}
 use lib.ListN.{length}
 use Rattle.text.specs.Places.{run}
 
+-- a count that stops within the list, one byte earlier
 below : (t : Bool) (n m k : ℕ) → (n < m → k ≡ n) → cond t (suc n) 0 < suc m → cond t (suc k) 0 ≡ cond t (suc n) 0
 below true n m k f h = ap suc (f (omega arith))
 below false n m k f h = refl
@@ -17,6 +18,7 @@ unfolding run
 found-stays p [] t h = absurd (omega arith)
 found-stays p (x ∷ xs) t h = below (p x) (run p xs) (length xs) (run p (xs ++ t)) (found-stays p xs t) h
 
+-- a count that reaches the end, one byte earlier
 within : (t : Bool) (n m k l : ℕ) → (n ≡ m → k ≡ m + l) → cond t (suc n) 0 ≡ suc m → cond t (suc k) 0 ≡ suc m + l
 within true n m k l f h = omega (arith, f (omega arith))
 within false n m k l f h = absurd (omega arith)

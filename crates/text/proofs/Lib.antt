@@ -3,3 +3,4 @@ pub mod Places
 pub mod Cuts
 pub mod Numbers
 pub mod Putting
+pub mod Unique

@@ -1,14 +1,17 @@
 -- Laws of putting text into a lent room, and of moving it to the front. Assumes nothing.
 use mathlib.Core.Path.{_≡_, ap, _∙_, sym, subst}
+use mathlib.Core.Bool.{Bool, true, false, not, cond}
 use mathlib.Core.List.{List, [], _∷_, _++_, append-assoc, append-nil}
 use Prim.Native.Nat.{ℕ, _+_, _≤_, _<_}
 use native.Mathlib.Omega.{arith}
 use native.Mathlib.Numerals.{add-one}
 use native.Mathlib.Nat.{add-zero}
+use lib.Dec.{leb}
+use borrow.Author.Tests.{le-leb, lt-leb, leb-true, leb-false, not-true, not-false}
 use lib.ListN.{length, getD, take, drop, set, length-drop, length-append, take-append-drop}
 use lib.Seq.{paste, paste-suc, take-length, take-suc-set, drop-set-lt, take-suc, getD-drop, drop-drop, take-at, drop-append-add, length-take-le}
 use Rattle.io.specs.Counts.{Counts}
-use Rattle.text.specs.Putting.{Put, fronted}
+use Rattle.text.specs.Putting.{Put, whereFree, PutFree, fronted}
 
 -- one byte more of s stands in the room
 module _ (d : List ℕ) (at : ℕ) (s : List ℕ) (i : ℕ) where
@@ -68,10 +71,31 @@ put-then {before} {mid} {after} {at} {r} {s} {xs} {ys} h p q =
 pub put-as : {before after : List ℕ} {at r : ℕ} {xs ys : List ℕ} → xs ≡ ys → Put before at xs after r → Put before at ys after r
 put-as {before} {after} {at} {r} e p = subst (λ (t : List ℕ). Put before at t after r) e p
 
--- two results of one put are equal
-pub put-unique : {before after other : List ℕ} {at r s : ℕ} {bytes : List ℕ} → Put before at bytes after r → Put before at bytes other s
-    → (r ≡ s) × (after ≡ other)
-put-unique p q = (p .next ∙ sym (q .next), p .room ∙ sym (q .room))
+-- ---- a put that asks whether there is room
+
+-- what `is_free` answered where a function goes on
+pub is-free : (room n : ℕ) {t : Bool} → t ≡ leb n room → not t ≡ false → n ≤ room
+is-free room n e h = leb-true n room (sym e ∙ not-false _ h)
+
+-- what it answered where a function stops
+pub not-free : (room n : ℕ) {t : Bool} → t ≡ leb n room → not t ≡ true → room < n
+not-free room n e h = leb-false n room (sym e ∙ not-true _ h)
+
+module _ {before : List ℕ} {at size : ℕ} {s : List ℕ} where
+  -- there is room, and s is put
+  pub put-fits : {after : List ℕ} {r : ℕ} → at + size ≤ length before → r ≤ at + size → Put before at s after r → PutFree before at size s after r
+  unfolding whereFree
+  put-fits h b p = record { put = put-as (sym (ap (λ (t : Bool). cond t s []) (le-leb (at + size) (length before) h))) p; bound = b }
+
+  -- there is no room, and nothing is put
+  pub put-short : length before < at + size → PutFree before at size s before at
+  unfolding whereFree
+  put-short h = record { put = put-as (sym (ap (λ (t : Bool). cond t s []) (lt-leb (at + size) (length before) h))) (put-none before at); bound = omega arith }
+
+  -- where there was room, s was put
+  pub put-free : {after : List ℕ} {r : ℕ} → at + size ≤ length before → PutFree before at size s after r → Put before at s after r
+  unfolding whereFree
+  put-free h p = put-as (ap (λ (t : Bool). cond t s []) (le-leb (at + size) (length before) h)) (p .put)
 
 -- a count within a list
 pub counted : (n : ℕ) (xs : List ℕ) → n ≤ length xs → Counts n xs

@@ -46,6 +46,10 @@ hexBytes [] = []
 hexBytes (a ∷ []) = []
 hexBytes (a ∷ b ∷ r) = (nibbleOf a * 16 + nibbleOf b) ∷ hexBytes r
 
+-- the same where each byte is a digit, and else none
+unfoldable pub bytesSaid : List ℕ → List ℕ
+bytesSaid s = cond (allHex s) (hexBytes s) []
+
 -- the digit of a value below 16, in lower case
 abbrev pub glyphOf : ℕ → ℕ
 glyphOf d = cond (ltb d 10) (48 + d) (87 + d)
@@ -64,7 +68,15 @@ decText (suc f) n = cond (ltb n 10) ((48 + n) ∷ []) (decText f (n / 10) ++ ((4
 abbrev pub decimalText : ℕ → List ℕ
 decimalText n = decText 20 n
 
+-- a label and a number
+abbrev pub labelled : List ℕ → ℕ → List ℕ
+labelled label x = label ++ decimalText x
+
+-- a letter and a number, as `x0`
+abbrev pub numbered : ℕ → ℕ → List ℕ
+numbered letter x = labelled (letter ∷ []) x
+
 -- each number in decimal after a space
 unfoldable pub numbersText : List ℕ → List ℕ
 numbersText [] = []
-numbersText (x ∷ xs) = (32 ∷ []) ++ decimalText x ++ numbersText xs
+numbersText (x ∷ xs) = numbered 32 x ++ numbersText xs

@@ -2,7 +2,7 @@
 use mathlib.Core.Path.{_≡_}
 use mathlib.Core.Bool.{Bool, true, false, cond, not}
 use mathlib.Core.List.{List, [], _∷_}
-use Prim.Native.Nat.{ℕ, suc, _-_, _≤_}
+use Prim.Native.Nat.{ℕ, suc, _-_, _≤_, max}
 use lib.Dec.{eqb}
 use lib.ListN.{length, getD, take, drop}
 
@@ -31,10 +31,11 @@ headWord s = take (upTo 32 (skipped s)) (skipped s)
 unfoldable pub tailWords : List ℕ → List ℕ
 tailWords s = drop (upTo 32 (skipped s)) (skipped s)
 
--- the first word from `at` on stands from `from` to `to`
+-- the first word from `at` on stands from `from` to `to`, within the line; where `at` is past its end, an empty one stands there
 pub record Next (line : List ℕ) (at from to : ℕ) : Type 0 where
+  pub starts : at ≤ from
   pub order : from ≤ to
-  pub inside : to ≤ length line
+  pub inside : to ≤ max at (length line)
   pub word : take (to - from) (drop from line) ≡ headWord (drop at line)
   pub rest : drop to line ≡ tailWords (drop at line)
 

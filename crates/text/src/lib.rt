@@ -1,12 +1,12 @@
 // Text on slices: places and words in a line, numbers and hex, putting an answer together in a lent room.
 ghost use mathlib.Core.Path.{_≡_};
-ghost use mathlib.Core.Bool.{true, false};
-ghost use Prim.Native.Nat.{_+_, _-_, _*_, _/_, _<_, _≤_};
+ghost use Prim.Native.Nat.{_+_, _-_, _*_, _/_, _<_, _≤_, min};
+ghost use lib.Dec.{leb};
 ghost use lib.ListN.{length, drop};
 ghost use Rattle.io.specs.Counts.{Counts};
 ghost use Rattle.text.specs.Places.{upTo, past, sameList, trimLen, Next};
-ghost use Rattle.text.specs.Numbers.{numberIn, nibbleOf, allHex, hexBytes, hexText, glyphOf, decimalText, numbersText};
-ghost use Rattle.text.specs.Putting.{Put, fronted};
+ghost use Rattle.text.specs.Numbers.{numberIn, nibbleOf, allHex, bytesSaid, hexText, glyphOf, decimalText, labelled, numbered, numbersText};
+ghost use Rattle.text.specs.Putting.{PutFree, fronted};
 
 // The bytes that end lines and part words.
 pub const LF: u8 = 10;
@@ -127,11 +127,33 @@ pub fn all_hex(s: &[u8]) -> bool
     true
 }
 
-// Puts bytes at `at`, and answers the next free place.
-pub fn put(room: &mut [u8], at: usize, bytes: &[u8]) -> usize
-    requires { ⌜ at + length (now bytes) ≤ length (now room) ⌝ }
-    ensures { λ r. ⌜ Put (now (room .entry)) at (now (bytes .entry)) (now (room .exit)) r ⌝ }
+// The lesser of two numbers.
+pub fn at_most(x: usize, most: usize) -> usize
+    ensures { λ r. ⌜ r ≡ min x most ⌝ }
 {
+    if x < most { x } else { most }
+}
+
+// Whether `size` bytes are free from `at` on in a room of `len`.
+pub fn is_free(len: usize, at: usize, size: usize) -> bool
+    ensures { λ r. ⌜ r ≡ leb (at + size) len ⌝ }
+{
+    if len < size {
+        return false;
+    }
+    if len - size < at {
+        return false;
+    }
+    true
+}
+
+// Puts bytes at `at`, or nothing where they do not fit, and answers the next free place.
+pub fn put(room: &mut [u8], at: usize, bytes: &[u8]) -> usize
+    ensures { λ r. ⌜ PutFree (now (room .entry)) at (length (now (bytes .entry))) (now (bytes .entry)) (now (room .exit)) r ⌝ }
+{
+    if !is_free(room.len(), at, bytes.len()) {
+        return at;
+    }
     let mut i = 0;
     while i < bytes.len() {
         room[at + i] = bytes[i];
@@ -161,9 +183,8 @@ pub struct Word {
     pub to: usize,
 }
 
-// The next word from `at` on; an empty one at the end where there is none.
+// The next word from `at` on; an empty one at the end where there is none, and at `at` where that is past the end.
 pub fn next_word(line: &[u8], at: usize) -> Word
-    requires { ⌜ at ≤ length (now line) ⌝ }
     ensures { λ r. ⌜ Next (now (line .entry)) at (r .from) (r .to) ⌝ }
 {
     let from = skip(line, at, SPACE);
@@ -171,22 +192,65 @@ pub fn next_word(line: &[u8], at: usize) -> Word
     Word { from, to }
 }
 
-// Puts a number's decimal digits at `at`.
-pub fn put_decimal(room: &mut [u8], at: usize, n: u64) -> usize
-    requires { ⌜ at + 20 ≤ length (now room) ⌝ }
-    ensures { λ r. ⌜ Put (now (room .entry)) at (decimalText n) (now (room .exit)) r ⌝ }
-    ensures { λ r. ⌜ r ≤ at + 20 ⌝ }
+// Puts a number's decimal digits at `at`, or nothing where they do not fit.
+fn put_decimal(room: &mut [u8], at: usize, n: u64) -> usize
+    ensures { λ r. ⌜ PutFree (now (room .entry)) at (length (decimalText n)) (decimalText n) (now (room .exit)) r ⌝ }
 {
     let mut digits = [0u8; 20];
     let k = io::decimal(n, &mut digits);
     put(room, at, &digits[..k])
 }
 
-// Puts bytes as hexadecimal digits at `at`.
-pub fn put_hex(room: &mut [u8], at: usize, bytes: &[u8]) -> usize
-    requires { ⌜ at + 2 * length (now bytes) ≤ length (now room) ⌝ }
-    ensures { λ r. ⌜ Put (now (room .entry)) at (hexText (now (bytes .entry))) (now (room .exit)) r ⌝ }
+// Puts a label and a number at `at`, or nothing where fewer bytes are free than the label and 20 digits take.
+pub fn put_labelled(room: &mut [u8], at: usize, label: &[u8], x: usize) -> usize
+    ensures { λ r. ⌜ PutFree (now (room .entry)) at (length (now (label .entry)) + 20) (labelled (now (label .entry)) x) (now (room .exit)) r ⌝ }
 {
+    if !is_free(room.len(), at, label.len() + 20) {
+        return at;
+    }
+    let next = put(room, at, label);
+    put_decimal(room, next, x as u64)
+}
+
+// Puts a letter and a number below 256 at `at`, or nothing where fewer than 4 bytes are free.
+pub fn put_numbered(room: &mut [u8], at: usize, letter: u8, x: u8) -> usize
+    ensures { λ r. ⌜ PutFree (now (room .entry)) at 4 (numbered letter x) (now (room .exit)) r ⌝ }
+{
+    if !is_free(room.len(), at, 4) {
+        return at;
+    }
+    let name = [letter];
+    let next = put(room, at, &name);
+    put_decimal(room, next, x as u64)
+}
+
+// Puts each number, after a space, at `at`, or nothing where fewer than 4 bytes are free for each.
+pub fn put_numbers(room: &mut [u8], at: usize, numbers: &[u8]) -> usize
+    ensures { λ r. ⌜ PutFree (now (room .entry)) at (4 * length (now (numbers .entry))) (numbersText (now (numbers .entry))) (now (room .exit)) r ⌝ }
+{
+    // 4 times the count is tested in this form first, since it may be larger than any usize
+    if room.len() / 4 < numbers.len() {
+        return at;
+    }
+    if !is_free(room.len(), at, 4 * numbers.len()) {
+        return at;
+    }
+    let mut next = at;
+    let mut i = 0;
+    while i < numbers.len() {
+        next = put_numbered(room, next, SPACE, numbers[i]);
+        i += 1;
+    }
+    next
+}
+
+// Puts bytes as hexadecimal digits at `at`, or nothing where they do not fit.
+pub fn put_hex(room: &mut [u8], at: usize, bytes: &[u8]) -> usize
+    ensures { λ r. ⌜ PutFree (now (room .entry)) at (2 * length (now (bytes .entry))) (hexText (now (bytes .entry))) (now (room .exit)) r ⌝ }
+{
+    if !is_free(room.len(), at, 2 * bytes.len()) {
+        return at;
+    }
     let mut i = 0;
     while i < bytes.len() {
         let x = bytes[i];
@@ -205,13 +269,17 @@ fn glyph(d: u8) -> u8
     if d < 10 { 48 + d } else { 87 + d }
 }
 
-// Puts the bytes that pairs of digits say at `at`.
+// Puts the bytes that pairs of digits say at `at`, or nothing where a byte is no digit or they do not fit.
 pub fn put_unhex(room: &mut [u8], at: usize, digits: &[u8]) -> usize
-    requires { ⌜ at + length (now digits) / 2 ≤ length (now room) ⌝ }
-    requires { ⌜ allHex (now digits) ≡ true ⌝ }
-    ensures { λ r. ⌜ Put (now (room .entry)) at (hexBytes (now (digits .entry))) (now (room .exit)) r ⌝ }
+    ensures { λ r. ⌜ PutFree (now (room .entry)) at (length (now (digits .entry)) / 2) (bytesSaid (now (digits .entry))) (now (room .exit)) r ⌝ }
 {
     let n = digits.len() / 2;
+    if !is_free(room.len(), at, n) {
+        return at;
+    }
+    if !all_hex(digits) {
+        return at;
+    }
     let mut i = 0;
     while i < n {
         let a = nibble(digits[2 * i]);
@@ -222,12 +290,15 @@ pub fn put_unhex(room: &mut [u8], at: usize, digits: &[u8]) -> usize
     at + i
 }
 
-// Moves the bytes from `from` to `to` to the front, and answers how many they are.
+// Moves the bytes from `from` to `to`, or to the room's end, to the front, and answers how many they are.
 pub fn to_front(room: &mut [u8], from: usize, to: usize) -> usize
-    requires { ⌜ (from ≤ to) × (to ≤ length (now room)) ⌝ }
-    ensures { λ r. ⌜ (r ≡ to - from) × (now (room .exit) ≡ fronted (now (room .entry)) from (to - from)) ⌝ }
+    ensures { λ r. ⌜ (r ≡ min to (length (now (room .entry))) - from) × (now (room .exit) ≡ fronted (now (room .entry)) from r) ⌝ }
 {
-    let n = to - from;
+    let end = at_most(to, room.len());
+    if end < from {
+        return 0;
+    }
+    let n = end - from;
     if from == 0 {
         return n;
     }
@@ -254,21 +325,4 @@ pub fn same(a: &[u8], b: &[u8]) -> bool
         i += 1;
     }
     true
-}
-
-// Puts each number, after a space, at `at`.
-pub fn put_numbers(room: &mut [u8], at: usize, numbers: &[u8]) -> usize
-    requires { ⌜ at + 21 * length (now numbers) ≤ length (now room) ⌝ }
-    ensures { λ r. ⌜ Put (now (room .entry)) at (numbersText (now (numbers .entry))) (now (room .exit)) r ⌝ }
-    ensures { λ r. ⌜ r ≤ at + 21 * length (now (numbers .entry)) ⌝ }
-{
-    let mut next = at;
-    let mut i = 0;
-    while i < numbers.len() {
-        let x = wide64(numbers[i]);
-        let k = put(room, next, b" ");
-        next = put_decimal(room, k, x);
-        i += 1;
-    }
-    next
 }

@@ -4,11 +4,8 @@ use Prim.Native.Nat.{_-_}
 use native.Mathlib.Omega.{arith}
 use lib.ListN.{length, take, drop, length-drop}
 use lib.Seq.{take-all}
-use Rattle.circuit.specs.declared.Refusal.the-variants.{Length}
-use Rattle.text.proofs.Putting.{put-as, counted}
+use Rattle.text.proofs.Putting.{put-as, put-free, counted}
 use Rattle.builder.specs.Call.{planOf}
-use Rattle.listing.specs.Printed.{refusedText, refusedSize}
-use Rattle.listing.proofs.Listed.{put-free}
 use Rattle.build.proofs.Answering.{too-short, other-length, is-planned, plan-text, plan-fits}
 use borrow.Author.Needs.{needs}
 use Rattle.build.proofs.answer.Statement.{statement}
@@ -21,7 +18,7 @@ returns : tie.Need-returns
 returns c =
     let k = c .before .before in
     let s = k .before .before .args .input .now in
-    let p = put-free refusedSize (refusedText Length) (search needs) (c .put-refused .ensures .0) in
+    let p = put-free (search needs) (c .put-refused .ensures) in
     (put-as (too-short s (k .if1 .taken)) p, counted (c .put-refused .result) (c .put-refused .last .0) (search needs))
 
 shared-slice-read-wide : tie.Need-shared-slice-read-wide
@@ -85,7 +82,7 @@ returns-3 c =
     let w = k .before in
     let u = w .before .before in
     let s = u .before .before .args .input .now in
-    let p = put-free refusedSize (refusedText Length) (search needs) (c .put-refused2 .ensures .0) in (
+    let p = put-free (search needs) (c .put-refused2 .ensures) in (
       put-as (other-length s (w .wide .result) (w .wide .ensures .0) (u .if1 .left) (k .if2 .left)) p,
       counted (c .put-refused2 .result) (c .put-refused2 .last .0) (search needs),
     )

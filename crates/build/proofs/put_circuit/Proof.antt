@@ -3,9 +3,8 @@ use mathlib.Core.Path.{ap, _∙_}
 use mathlib.Core.List.{_++_}
 use Prim.Native.Nat.{ℕ}
 use native.Mathlib.Omega.{arith}
-use Rattle.text.proofs.Putting.{put-then, put-as, counted}
-use Rattle.listing.specs.Printed.{countsText, newLine, linesIn, countsSize, linesSize}
-use Rattle.listing.proofs.Listed.{put-free}
+use Rattle.text.proofs.Putting.{put-then, put-as, put-free, counted}
+use Rattle.listing.specs.Printed.{countsText, newLine, linesIn}
 use Rattle.listing.proofs.Depths.{listing-of}
 use borrow.Author.Needs.{needs}
 use Rattle.build.proofs.put_circuit.Statement.{statement}
@@ -33,10 +32,10 @@ returns c =
     let d = k .before .before in
     let a = d .before .args in
     let x = a .c in
-    let counts = put-free countsSize (countsText (x .n) (x .m) (x .g) (d .depth-of .result)) (search needs) (k .put-counts .ensures .0) in
-    let lines = put-free linesSize (linesIn x) (search needs) (c .put-lines .ensures .0) in
+    let counts = put-free (omega arith) (k .put-counts .ensures) in
+    let lines = put-free (omega arith) (c .put-lines .ensures) in
     let e = ap (λ (y : ℕ). countsText (x .n) (x .m) (x .g) y ++ newLine ++ linesIn x) (d .depth-of .ensures) ∙ listing-of x (d .before .pre) in (
-      put-as e (put-then (omega arith) (put-then (omega arith) counts (p .put .ensures)) lines),
+      put-as e (put-then (omega arith) (put-then (omega arith) counts (put-free (omega arith) (p .put .ensures))) lines),
       counted (c .put-lines .result) (c .put-lines .last .0) (search needs),
     )
 

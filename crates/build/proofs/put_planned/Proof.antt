@@ -1,7 +1,5 @@
 -- `build::put_planned` meets its contract. Assumes nothing.
-use Rattle.text.proofs.Putting.{counted}
-use Rattle.listing.specs.Printed.{refusedText, refusedSize}
-use Rattle.listing.proofs.Listed.{put-free}
+use Rattle.text.proofs.Putting.{put-free, counted}
 use borrow.Author.Needs.{needs}
 use Rattle.build.proofs.put_planned.Statement.{statement}
 use Rattle.build.proofs.put_planned.Tie as tie
@@ -26,7 +24,7 @@ returns c =
 returns-2 : tie.Need-returns-2
 returns-2 c =
     let m = c .before .before .before in (
-      rw (m .answer .given .1) (put-free refusedSize (refusedText (m .answer .given .0 .0)) (search needs) (c .put-refused .ensures .0)),
+      rw (m .answer .given .1) (put-free (search needs) (c .put-refused .ensures)),
       counted (c .put-refused .result) (c .put-refused .last .0) (search needs),
     )
 

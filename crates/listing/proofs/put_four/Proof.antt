@@ -1,6 +1,6 @@
 -- `listing::put_four` meets its contract. Assumes nothing.
 use native.Mathlib.Omega.{arith}
-use Rattle.text.proofs.Putting.{put-then}
+use Rattle.text.proofs.Putting.{put-then, put-free}
 use Rattle.listing.specs.Printed.{countsText}
 use borrow.Author.Needs.{needs}
 use Rattle.listing.proofs.put_four.Statement.{statement}
@@ -40,9 +40,9 @@ returns c =
     let gates = depth .before .before .before .before .before in
     let outputs = gates .before .before .before .before .before in
     let inputs = outputs .before .before .before .before .before in
-    let two = put-then (omega arith) (inputs .put-labelled .ensures .0) (outputs .put-labelled2 .ensures .0) in
-    let three = put-then (omega arith) two (gates .put-labelled3 .ensures .0) in
-    (put-then (omega arith) three (depth .put-labelled4 .ensures .0), search needs)
+    let two = put-then (omega arith) (put-free (omega arith) (inputs .put-labelled .ensures)) (put-free (omega arith) (outputs .put-labelled2 .ensures)) in
+    let three = put-then (omega arith) two (put-free (omega arith) (gates .put-labelled3 .ensures)) in
+    (put-then (omega arith) three (put-free (omega arith) (depth .put-labelled4 .ensures)), search needs)
 
 pub put-four-spec : {M : Type 1} → statement M
 put-four-spec =

@@ -14,7 +14,7 @@ use Rattle.listing.proofs.put_gates.Tie as tie
 
 abbrev Inv-loop : tie.InvT-loop
 Inv-loop room₀ at c n g next₀ k₀ room next k =
-    (k ≤ g) × (at + 22 * g + 64 ≤ length room₀) × (g ≤ 248) × (length room ≡ length room₀) × (next ≤ at + 22 * k)
+    (k ≤ g) × (at + 22 * g ≤ length room₀) × (g ≤ 248) × (length room ≡ length room₀) × (next ≤ at + 22 * k)
     × Put room₀ at (linesTo (λ (k : ℕ). gateLine (c .n) k (gateOf c k)) k) room next
 
 abbrev μ-loop : tie.MeasureT-loop

@@ -1,7 +1,7 @@
 -- `listing::put_joined` meets its contract. Assumes nothing.
 use borrow.Author.Needs.{needs}
 use native.Mathlib.Omega.{arith}
-use Rattle.text.proofs.Putting.{put-then}
+use Rattle.text.proofs.Putting.{put-then, put-free}
 use Rattle.listing.proofs.put_joined.Statement.{statement}
 use Rattle.listing.proofs.put_joined.Tie as tie
 
@@ -25,7 +25,7 @@ returns c =
     let second = c .before .before in
     let p = second .before .before .before .before in
     let first = p .before .before .before .before .before in
-    (put-then (omega arith) (put-then (omega arith) (first .put-name .ensures .0) (p .put .ensures)) (second .put-name2 .ensures .0), search needs)
+    (put-then (omega arith) (put-then (omega arith) (first .put-name .ensures .0) (put-free (omega arith) (p .put .ensures))) (second .put-name2 .ensures .0), search needs)
 
 pub put-joined-spec : {M : Type 1} → statement M
 put-joined-spec =

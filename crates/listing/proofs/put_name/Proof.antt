@@ -1,6 +1,7 @@
 -- `listing::put_name` meets its contract. Assumes nothing.
+use native.Mathlib.Omega.{arith}
 use borrow.Author.Needs.{needs}
-use Rattle.text.proofs.Putting.{put-as}
+use Rattle.text.proofs.Putting.{put-as, put-free}
 use Rattle.listing.proofs.Names.{input-name, gate-name}
 use Rattle.listing.proofs.put_name.Statement.{statement}
 use Rattle.listing.proofs.put_name.Tie as tie
@@ -10,6 +11,9 @@ wide-requires c κs = search needs
 
 put-numbered-requires : tie.Need-put-numbered-requires
 put-numbered-requires c κs = search needs
+
+cast-put-numbered : tie.Need-cast-put-numbered
+cast-put-numbered c = search needs
 
 put-numbered-requires-2 : tie.Need-put-numbered-requires-2
 put-numbered-requires-2 c κs = search needs
@@ -23,7 +27,7 @@ returns c =
     let t = p .before .before in
     let w = t .before .wide .ensures .0 in
     let a = t .before .before .before .args in
-    (put-as (input-name (a .n) _ _ w (t .if1 .taken)) (p .put-numbered .ensures .0), p .put-numbered .ensures .1)
+    (put-as (input-name (a .n) (a .line) (omega (arith, w))) (put-free (omega arith) (p .put-numbered .ensures)), search needs)
 
 same-length-2 : tie.Need-same-length-2
 same-length-2 c = search needs
@@ -34,7 +38,7 @@ returns-2 c =
     let t = p .before .before in
     let w = t .before .wide .ensures .0 in
     let a = t .before .before .before .args in
-    (put-as (gate-name (a .n) _ _ w (t .if1 .left)) (p .put-numbered2 .ensures .0), p .put-numbered2 .ensures .1)
+    (put-as (gate-name (a .n) _ _ w (t .if1 .left)) (put-free (omega arith) (p .put-numbered2 .ensures)), search needs)
 
 pub put-name-spec : {M : Type 1} → statement M
 put-name-spec =
@@ -42,6 +46,7 @@ put-name-spec =
     (tie.spec
     wide-requires
     put-numbered-requires
+    cast-put-numbered
     put-numbered-requires-2
     same-length
     returns

@@ -1,7 +1,7 @@
 -- `listing::put_not` meets its contract. Assumes nothing.
 use borrow.Author.Needs.{needs}
 use native.Mathlib.Omega.{arith}
-use Rattle.text.proofs.Putting.{put-then}
+use Rattle.text.proofs.Putting.{put-then, put-free}
 use Rattle.listing.proofs.put_not.Statement.{statement}
 use Rattle.listing.proofs.put_not.Tie as tie
 
@@ -21,7 +21,7 @@ returns : tie.Need-returns
 returns c =
     let name = c .before .before in
     let first = name .before .before .before .before in
-    (put-then (omega arith) (first .put .ensures) (name .put-name .ensures .0), search needs)
+    (put-then (omega arith) (put-free (omega arith) (first .put .ensures)) (name .put-name .ensures .0), search needs)
 
 pub put-not-spec : {M : Type 1} → statement M
 put-not-spec =

@@ -14,7 +14,7 @@ use Rattle.listing.proofs.put_outputs.Tie as tie
 
 abbrev Inv-loop : tie.InvT-loop
 Inv-loop room₀ at c n m next₀ j₀ room next j =
-    (j ≤ m) × (at + 12 * m + 64 ≤ length room₀) × (m ≤ 32) × (length room ≡ length room₀) × (next ≤ at + 12 * j)
+    (j ≤ m) × (at + 12 * m ≤ length room₀) × (m ≤ 32) × (length room ≡ length room₀) × (next ≤ at + 12 * j)
     × Put room₀ at (linesTo (λ (j : ℕ). outputLine (c .n) j (outOf c j)) j) room next
 
 abbrev μ-loop : tie.MeasureT-loop

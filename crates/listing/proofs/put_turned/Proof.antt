@@ -1,7 +1,7 @@
 -- `listing::put_turned` meets its contract. Assumes nothing.
 use borrow.Author.Needs.{needs}
 use native.Mathlib.Omega.{arith}
-use Rattle.text.proofs.Putting.{put-then}
+use Rattle.text.proofs.Putting.{put-then, put-free}
 use Rattle.listing.proofs.put_turned.Statement.{statement}
 use Rattle.listing.proofs.put_turned.Tie as tie
 
@@ -28,7 +28,7 @@ returns c =
     let last = c .before .before in
     let inner = last .before .before .before .before .before in
     let first = inner .before .before .before .before in
-    (put-then (omega arith) (put-then (omega arith) (first .put .ensures) (inner .put-joined .ensures .0)) (last .put2 .ensures), search needs)
+    (put-then (omega arith) (put-then (omega arith) (put-free (omega arith) (first .put .ensures)) (inner .put-joined .ensures .0)) (put-free (omega arith) (last .put2 .ensures)), search needs)
 
 pub put-turned-spec : {M : Type 1} → statement M
 put-turned-spec =

@@ -11,7 +11,7 @@ find-requires : tie.Need-find-requires
 find-requires c κs = search needs
 
 returns : tie.Need-returns
-returns c = let s = c .before .before .before in next-of _ _ _ _ (s .pre) (c .before .skip .ensures) (c .find .ensures)
+returns c = next-of _ _ _ _ (c .before .skip .ensures) (c .find .ensures)
 
 pub next-word-spec : {M : Type 1} → statement M
 next-word-spec = tie.close (tie.spec skip-requires find-requires returns)

@@ -6,7 +6,7 @@ use mathlib.Core.List.{List}
 use Prim.Native.Nat.{ℕ, _+_, _-_, _≤_}
 use lib.ListN.{length, getD, set, length-set}
 use lib.Seq.{paste, paste-zero}
-use Rattle.text.proofs.Putting.{paste-next, put-done}
+use Rattle.text.proofs.Putting.{paste-next, put-done, is-free, not-free, put-fits, put-short}
 use Rattle.text.proofs.put.Statement.{statement}
 use Rattle.text.proofs.put.Tie as tie
 
@@ -16,8 +16,16 @@ Inv-loop room₀ at bytes i₀ room i = (i ≤ length bytes) × (at + length byt
 abbrev μ-loop : tie.MeasureT-loop
 μ-loop room₀ at bytes i₀ room i = length bytes - i
 
+is-free-requires : tie.Need-is-free-requires Inv-loop μ-loop
+is-free-requires c κs = search needs
+
+returns : tie.Need-returns Inv-loop μ-loop
+returns c = put-short (not-free _ _ (c .before .is-free .ensures) (c .if1 .taken))
+
 loop-holds : tie.Need-loop-holds Inv-loop μ-loop
-loop-holds c = (search needs, search needs, search needs, paste-zero (c .args .room .now) (c .args .at) (c .args .bytes .now))
+loop-holds c =
+    let a = c .before .before .before .before .args in
+    (search needs, is-free _ _ (c .before .is-free .ensures) (c .if1 .left), search needs, paste-zero (a .room .now) (a .at) (a .bytes .now))
 
 shared-slice-read-room : tie.Need-shared-slice-read-room Inv-loop μ-loop
 shared-slice-read-room c = search needs
@@ -36,7 +44,7 @@ loop-less c = search needs
 
 loop-again : tie.Need-loop-again Inv-loop μ-loop
 loop-again c = let h = c .before .before in
-    let a = h .before .args in
+    let a = h .before .before .before .before .before .args in
     let i = h .loop .i in (
       search needs,
       search needs,
@@ -51,8 +59,8 @@ add-result c = search needs
 same-length : tie.Need-same-length Inv-loop μ-loop
 same-length c = search needs
 
-returns : tie.Need-returns Inv-loop μ-loop
-returns c = let h = c .before in put-done _ _ _ _ _ (h .loop .inv .3) (omega arith)
+returns-2 : tie.Need-returns-2 Inv-loop μ-loop
+returns-2 c = let h = c .before in put-fits (h .loop .inv .1) (omega arith) (put-done _ _ _ _ _ (h .loop .inv .3) (omega arith))
 
 pub put-spec : {M : Type 1} → statement M
 put-spec =
@@ -60,6 +68,8 @@ put-spec =
     (tie.spec
     Inv-loop
     μ-loop
+    is-free-requires
+    returns
     loop-holds
     shared-slice-read-room
     add-room
@@ -69,4 +79,4 @@ put-spec =
     loop-again
     add-result
     same-length
-    returns)
+    returns-2)

@@ -1,6 +1,5 @@
 -- `text::put_decimal` meets its contract. The digits are those that `io` writes, the fewest. Assumes nothing.
 use borrow.Author.Needs.{needs}
-use native.Mathlib.Omega.{arith}
 use mathlib.Core.Path.{_∙_}
 use Rattle.text.proofs.Numbers.{digits-text, few-digits}
 use Rattle.text.proofs.put_decimal.Statement.{statement}
@@ -16,20 +15,17 @@ slice-aggregate-put : tie.Need-slice-aggregate-put
 slice-aggregate-put c = search needs
 
 put-requires : tie.Need-put-requires
-put-requires c κs = let d = c .before .before in
-    let f = few-digits (d .before .before .before .args .n) (d .decimal .result) (search needs) (d .decimal .ensures .1 .0) in
-    omega (arith, d .decimal .ensures .0 .1)
+put-requires c κs = search needs
 
 same-length : tie.Need-same-length
 same-length c = search needs
 
 returns : tie.Need-returns
-returns c = let p = c .before .before in let d = p .before .before .before in
-    let a = d .before .before .before .args in
-    let f = few-digits (a .n) (d .decimal .result) (search needs) (d .decimal .ensures .1 .0) in (
-      rw (d .decimal .ensures .1 .1 ∙ digits-text 20 _ _ f (d .decimal .ensures .1 .0)) at (p .put .ensures),
-      omega (arith, p .put .ensures .next, d .decimal .ensures .0 .1),
-    )
+returns c =
+    let p = c .before .before in
+    let d = p .before .before .before in
+    let f = few-digits (d .before .before .before .args .n) (d .decimal .result) (search needs) (d .decimal .ensures .1 .0) in
+    rw (d .decimal .ensures .1 .1 ∙ digits-text 20 _ _ f (d .decimal .ensures .1 .0)) at (p .put .ensures)
 
 pub put-decimal-spec : {M : Type 1} → statement M
 put-decimal-spec =

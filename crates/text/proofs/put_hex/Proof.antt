@@ -8,7 +8,7 @@ use lib.ListN.{length, set, length-set}
 use lib.Seq.{paste, paste-zero}
 use Rattle.text.specs.Numbers.{hexText}
 use Rattle.text.proofs.Numbers.{text-length, text-even, text-odd}
-use Rattle.text.proofs.Putting.{paste-two, put-done}
+use Rattle.text.proofs.Putting.{paste-two, put-done, is-free, not-free, put-fits, put-short}
 use Rattle.text.proofs.put_hex.Statement.{statement}
 use Rattle.text.proofs.put_hex.Tie as tie
 
@@ -18,8 +18,19 @@ Inv-loop room₀ at bytes i₀ room i = (i ≤ length bytes) × (at + 2 * length
 abbrev μ-loop : tie.MeasureT-loop
 μ-loop room₀ at bytes i₀ room i = length bytes - i
 
+mul-is-free : tie.Need-mul-is-free Inv-loop μ-loop
+mul-is-free c = search needs
+
+is-free-requires : tie.Need-is-free-requires Inv-loop μ-loop
+is-free-requires c κs = search needs
+
+returns : tie.Need-returns Inv-loop μ-loop
+returns c = put-short (not-free _ _ (c .before .is-free .ensures) (c .if1 .taken))
+
 loop-holds : tie.Need-loop-holds Inv-loop μ-loop
-loop-holds c = (search needs, search needs, search needs, paste-zero (c .before .before .args .room .now) (c .before .before .args .at) (hexText (c .before .before .args .bytes .now)))
+loop-holds c =
+    let a = c .before .before .before .before .args in
+    (search needs, is-free _ _ (c .before .is-free .ensures) (c .if1 .left), search needs, paste-zero (a .room .now) (a .at) (hexText (a .bytes .now)))
 
 shared-slice-read-x : tie.Need-shared-slice-read-x Inv-loop μ-loop
 shared-slice-read-x c = search needs
@@ -59,7 +70,7 @@ loop-less c = search needs
 
 loop-again : tie.Need-loop-again Inv-loop μ-loop
 loop-again c = let g = c .before in let n = g .before .before in let h = n .before in
-    let a = h .before .before .before .args in
+    let a = h .before .before .before .before .before .args in
     let i = h .loop .i in
     let L = hexText (a .bytes .now) in
     let e : 2 * i + 2 ≡ 2 * (i + 1) = omega arith in
@@ -83,9 +94,11 @@ add-result c = search needs
 same-length : tie.Need-same-length Inv-loop μ-loop
 same-length c = search needs
 
-returns : tie.Need-returns Inv-loop μ-loop
-returns c = let h = c .before in let a = h .before .before .before .args in let len = text-length (a .bytes .now) in
-    put-done _ _ _ _ _ (h .loop .inv .3) (omega arith)
+returns-2 : tie.Need-returns-2 Inv-loop μ-loop
+returns-2 c =
+    let h = c .before in
+    let len = text-length (h .before .before .before .before .before .args .bytes .now) in
+    put-fits (h .loop .inv .1) (omega arith) (put-done _ _ _ _ _ (h .loop .inv .3) (omega arith))
 
 pub put-hex-spec : {M : Type 1} → statement M
 put-hex-spec =
@@ -93,6 +106,9 @@ put-hex-spec =
     (tie.spec
     Inv-loop
     μ-loop
+    mul-is-free
+    is-free-requires
+    returns
     loop-holds
     shared-slice-read-x
     glyph-requires
@@ -110,4 +126,4 @@ put-hex-spec =
     mul-result
     add-result
     same-length
-    returns)
+    returns-2)

@@ -1,42 +1,48 @@
 -- `text::put_numbers` meets its contract. The invariant: the first i numbers are put. Assumes nothing.
-use borrow.Author.Needs.{needs}
-use native.Mathlib.Omega.{arith}
 use mathlib.Core.Path.{_≡_, _∙_, ap}
 use Prim.Native.Nat.{ℕ, _+_, _-_, _*_, _≤_}
+use native.Mathlib.Omega.{arith}
+use borrow.Author.Needs.{needs}
 use lib.ListN.{length, take}
-use Rattle.text.specs.Numbers.{numbersText}
 use lib.Seq.{take-length}
+use Rattle.text.specs.Numbers.{numbersText}
 use Rattle.text.specs.Putting.{Put}
 use Rattle.text.proofs.Numbers.{numbers-next}
-use Rattle.text.proofs.Putting.{put-none, put-then, put-as}
+use Rattle.text.proofs.Putting.{put-none, put-then, put-as, is-free, not-free, put-fits, put-short, put-free}
 use Rattle.text.proofs.put_numbers.Statement.{statement}
 use Rattle.text.proofs.put_numbers.Tie as tie
 
 abbrev Inv-loop : tie.InvT-loop
-Inv-loop room₀ at numbers next₀ i₀ t8 room next i = (i ≤ length numbers) × (at + 21 * length numbers ≤ length room₀) × (length room ≡ length room₀) × (next ≤ at + 21 * i) × Put room₀ at (numbersText (take i numbers)) room next
+Inv-loop room₀ at numbers next₀ i₀ room next i =
+    (i ≤ length numbers) × (at + 4 * length numbers ≤ length room₀) × (length room ≡ length room₀) × (next ≤ at + 4 * i)
+    × Put room₀ at (numbersText (take i numbers)) room next
 
 abbrev μ-loop : tie.MeasureT-loop
-μ-loop room₀ at numbers next₀ i₀ t8 room next i = length numbers - i
+μ-loop room₀ at numbers next₀ i₀ room next i = length numbers - i
+
+returns : tie.Need-returns Inv-loop μ-loop
+returns c = put-short (omega arith)
+
+mul-is-free : tie.Need-mul-is-free Inv-loop μ-loop
+mul-is-free c = search needs
+
+is-free-requires : tie.Need-is-free-requires Inv-loop μ-loop
+is-free-requires c κs = search needs
+
+returns-2 : tie.Need-returns-2 Inv-loop μ-loop
+returns-2 c = put-short (not-free _ _ (c .before .is-free .ensures) (c .if2 .taken))
 
 loop-holds : tie.Need-loop-holds Inv-loop μ-loop
 unfolding numbersText
-loop-holds c = let a = c .before .before .args in
-    (search needs, search needs, search needs, search needs, put-none (a .room .now) (a .at))
+loop-holds c =
+    let a = c .before .before .before .before .before .args in
+    (search needs, is-free _ _ (c .before .is-free .ensures) (c .if2 .left), search needs, search needs, put-none (a .room .now) (a .at))
 
-shared-slice-read-wide64 : tie.Need-shared-slice-read-wide64 Inv-loop μ-loop
-shared-slice-read-wide64 c = search needs
+shared-slice-read-put-numbered : tie.Need-shared-slice-read-put-numbered Inv-loop μ-loop
+shared-slice-read-put-numbered c = search needs
 
-wide64-requires : tie.Need-wide64-requires Inv-loop μ-loop
-wide64-requires c κs = search needs
-
-slice-aggregate-put : tie.Need-slice-aggregate-put Inv-loop μ-loop
-slice-aggregate-put c = search needs
-
-put-requires : tie.Need-put-requires Inv-loop μ-loop
-put-requires c κs = search needs
-
-put-decimal-requires : tie.Need-put-decimal-requires Inv-loop μ-loop
-put-decimal-requires c κs = search needs
+put-numbered-requires : tie.Need-put-numbered-requires Inv-loop μ-loop
+put-numbered-requires c κs = search needs
 
 add-i : tie.Need-add-i Inv-loop μ-loop
 add-i c = search needs
@@ -45,25 +51,28 @@ loop-less : tie.Need-loop-less Inv-loop μ-loop
 loop-less c = search needs
 
 loop-again : tie.Need-loop-again Inv-loop μ-loop
-loop-again c = let d = c .before .before in let p = d .before .before .before .before in let w = p .before .before .before in
-    let n = w .before .before in let h = n .before in let a = h .before .before .before .args in (
+loop-again c =
+    let p = c .before .before in
+    let n = p .before .before .before in
+    let h = n .before in
+    let a = h .before .before .before .before .before .before .args in (
       search needs,
       search needs,
       search needs,
       search needs,
-      put-as (numbers-next (a .numbers .now) (h .loop .i) (w .wide64 .result) (n .loop-test .taken) (w .wide64 .ensures .0))
-          (put-then (omega arith) (put-then (omega arith) (h .loop .inv .4) (p .put .ensures)) (d .put-decimal .ensures .0)),
+      put-as (numbers-next (a .numbers .now) (h .loop .i) (n .loop-test .taken))
+          (put-then (omega arith) (h .loop .inv .4) (put-free (omega arith) (p .put-numbered .ensures))),
     )
 
 same-length : tie.Need-same-length Inv-loop μ-loop
 same-length c = search needs
 
-returns : tie.Need-returns Inv-loop μ-loop
-returns c =
+returns-3 : tie.Need-returns-3 Inv-loop μ-loop
+returns-3 c =
     let h = c .before in
-    let ns = h .before .before .before .args .numbers .now in
+    let ns = h .before .before .before .before .before .before .args .numbers .now in
     let e : h .loop .i ≡ length ns = omega arith in
-    (put-as (ap (λ (k : ℕ). numbersText (take k ns)) e ∙ ap numbersText (take-length ns)) (h .loop .inv .4), search needs)
+    put-fits (h .loop .inv .1) (omega arith) (put-as (ap (λ (k : ℕ). numbersText (take k ns)) e ∙ ap numbersText (take-length ns)) (h .loop .inv .4))
 
 pub put-numbers-spec : {M : Type 1} → statement M
 put-numbers-spec =
@@ -71,14 +80,15 @@ put-numbers-spec =
     (tie.spec
     Inv-loop
     μ-loop
+    returns
+    mul-is-free
+    is-free-requires
+    returns-2
     loop-holds
-    shared-slice-read-wide64
-    wide64-requires
-    slice-aggregate-put
-    put-requires
-    put-decimal-requires
+    shared-slice-read-put-numbered
+    put-numbered-requires
     add-i
     loop-less
     loop-again
     same-length
-    returns)
+    returns-3)

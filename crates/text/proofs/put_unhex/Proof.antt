@@ -5,11 +5,12 @@ use mathlib.Core.Path.{_≡_, sym, _∙_, ap}
 use mathlib.Core.Bool.{true}
 use mathlib.Core.List.{List}
 use Prim.Native.Nat.{ℕ, _+_, _-_, _*_, _/_, _≤_, _<_}
+use borrow.Author.Tests.{not-true, not-false}
 use lib.ListN.{length, getD, set, length-set}
 use lib.Seq.{paste, paste-zero}
 use Rattle.text.specs.Numbers.{hexBytes, allHex, nibbleOf}
-use Rattle.text.proofs.Numbers.{bytes-length, bytes-at, all-digit}
-use Rattle.text.proofs.Putting.{paste-next, put-done}
+use Rattle.text.proofs.Numbers.{bytes-length, bytes-at, all-digit, bytes-said, none-said}
+use Rattle.text.proofs.Putting.{paste-next, put-none, put-as, put-done, is-free, not-free, put-fits, put-short}
 use Rattle.text.proofs.put_unhex.Statement.{statement}
 use Rattle.text.proofs.put_unhex.Tie as tie
 
@@ -22,15 +23,40 @@ abbrev μ-loop : tie.MeasureT-loop
 digit-a : (c : tie.After-nibble2 Inv-loop μ-loop) → c .before .before .nibble .result < 16
 digit-a c =
     let h = c .before .before .before .before .before in
-    omega (arith, c .before .before .nibble .ensures .0, all-digit (h .before .before .before .args .digits .now) (2 * h .loop .i) (h .loop .inv .3) (omega arith))
+    omega (arith, c .before .before .nibble .ensures .0, all-digit (h .before .before .before .before .before .before .before .args .digits .now) (2 * h .loop .i) (h .loop .inv .3) (omega arith))
 
 digit-b : (c : tie.After-nibble2 Inv-loop μ-loop) → c .nibble2 .result < 16
 digit-b c =
     let h = c .before .before .before .before .before in
-    omega (arith, c .nibble2 .ensures .0, all-digit (h .before .before .before .args .digits .now) (2 * h .loop .i + 1) (h .loop .inv .3) (omega arith))
+    omega (arith, c .nibble2 .ensures .0, all-digit (h .before .before .before .before .before .before .before .args .digits .now) (2 * h .loop .i + 1) (h .loop .inv .3) (omega arith))
+
+is-free-requires : tie.Need-is-free-requires Inv-loop μ-loop
+is-free-requires c κs = search needs
+
+returns : tie.Need-returns Inv-loop μ-loop
+returns c = put-short (not-free _ _ (c .before .is-free .ensures) (c .if1 .taken))
+
+all-hex-requires : tie.Need-all-hex-requires Inv-loop μ-loop
+all-hex-requires c κs = search needs
+
+returns-2 : tie.Need-returns-2 Inv-loop μ-loop
+returns-2 c =
+    let k = c .before .before in
+    let a = k .before .before .before .before .args in
+    let none = none-said (a .digits .now) (sym (c .before .all-hex .ensures) ∙ not-true _ (c .if2 .taken)) in
+    put-fits (is-free _ _ (k .before .is-free .ensures) (k .if1 .left)) (omega arith) (put-as (sym none) (put-none (a .room .now) (a .at)))
 
 loop-holds : tie.Need-loop-holds Inv-loop μ-loop
-loop-holds c = (search needs, search needs, search needs, search needs, search needs, paste-zero (c .before .before .args .room .now) (c .before .before .args .at) (hexBytes (c .before .before .args .digits .now)))
+loop-holds c =
+    let k = c .before .before in
+    let a = k .before .before .before .before .args in (
+      search needs,
+      search needs,
+      is-free _ _ (k .before .is-free .ensures) (k .if1 .left),
+      sym (c .before .all-hex .ensures) ∙ not-false _ (c .if2 .left),
+      search needs,
+      paste-zero (a .room .now) (a .at) (hexBytes (a .digits .now)),
+    )
 
 mul-nibble : tie.Need-mul-nibble Inv-loop μ-loop
 mul-nibble c = search needs
@@ -74,7 +100,7 @@ loop-less c = search needs
 loop-again : tie.Need-loop-again Inv-loop μ-loop
 loop-again c = let h = c .before .before .before .before .before in
     let v = h .loop .inv in
-    let a = h .before .before .before .args in
+    let a = h .before .before .before .before .before .before .before .args in
     let i = h .loop .i in
     let x = c .before .before .nibble .result in
     let y = c .nibble2 .result in
@@ -98,9 +124,12 @@ add-result c = search needs
 same-length : tie.Need-same-length Inv-loop μ-loop
 same-length c = search needs
 
-returns : tie.Need-returns Inv-loop μ-loop
-returns c = let h = c .before in let a = h .before .before .before .args in let len = bytes-length (a .digits .now) in
-    put-done _ _ _ _ _ (h .loop .inv .5) (omega arith)
+returns-3 : tie.Need-returns-3 Inv-loop μ-loop
+returns-3 c =
+    let h = c .before in
+    let s = h .before .before .before .before .before .before .before .args .digits .now in
+    let len = bytes-length s in
+    put-fits (h .loop .inv .2) (omega arith) (put-as (sym (bytes-said s (h .loop .inv .3))) (put-done _ _ _ _ _ (h .loop .inv .5) (omega arith)))
 
 pub put-unhex-spec : {M : Type 1} → statement M
 put-unhex-spec =
@@ -108,6 +137,10 @@ put-unhex-spec =
     (tie.spec
     Inv-loop
     μ-loop
+    is-free-requires
+    returns
+    all-hex-requires
+    returns-2
     loop-holds
     mul-nibble
     shared-slice-read-nibble
@@ -125,4 +158,4 @@ put-unhex-spec =
     loop-again
     add-result
     same-length
-    returns)
+    returns-3)

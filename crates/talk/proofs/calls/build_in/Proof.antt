@@ -3,8 +3,9 @@ use mathlib.Core.Path.{_≡_}
 use native.Mathlib.Omega.{arith}
 use lib.ListN.{length, take, drop, length-take}
 use Rattle.script.specs.Order.{bytesOf}
+use Rattle.talk.specs.Saying.{Said}
 use Rattle.talk.proofs.Spoken.{said}
-use Rattle.talk.proofs.Laying.{bytes-long}
+use Rattle.talk.proofs.Laying.{bytes-long, bytes-put}
 use Rattle.talk.proofs.Building.{builds-as, builds-first}
 use borrow.Author.Needs.{needs}
 use Rattle.talk.proofs.calls.build_in.Statement.{statement}
@@ -15,6 +16,16 @@ size : (m : tie.After-at-most) → length (take (m .at-most .result) (m .before 
 size m =
     let s = m .before .before .before .before .before .before .before .before .before .before in
     omega (arith, m .at-most .ensures, s .pre .2, length-take (m .at-most .result) (s .args .room .now))
+
+-- the rows stand first in their room
+rows : (m : tie.After-put-unhex) → let a = m .before .before .before .before .before .before .before .args in
+    Said (m .put-unhex .last .0) (m .put-unhex .result) (bytesOf (a .line .now) (a .q .rows))
+rows m =
+    let s = m .before .before .before .before .before .before .before in
+    let h = s .pre .0 in
+    let p = bytes-put (s .args .line .now) (s .args .q .rows) h (omega arith) (m .put-unhex .ensures) in
+    let n = bytes-long (s .args .line .now) (s .args .q .rows) h in
+    said (omega arith) p
 
 sub-put-unhex : tie.Need-sub-put-unhex
 sub-put-unhex c = search needs
@@ -32,10 +43,10 @@ at-most-requires : tie.Need-at-most-requires
 at-most-requires c κs = search needs
 
 slice-reshare-prefix-build : tie.Need-slice-reshare-prefix-build
-slice-reshare-prefix-build c = (said (let s = c .before .before .before .before .before .before .before .before .before .before in omega (arith, c .before .before .before .put-unhex .ensures .next, bytes-long (s .args .line .now) (s .args .q .rows) (s .pre .0), s .pre .1, s .pre .0 .order, s .pre .0 .short)) (c .before .before .before .put-unhex .ensures)) .counts .0
+slice-reshare-prefix-build c = rows (c .before .before .before) .counts .0
 
 slice-aggregate-build : tie.Need-slice-aggregate-build
-slice-aggregate-build c = (said (let s = c .before .before .before .before .before .before .before .before .before .before .before in omega (arith, c .before .before .before .before .put-unhex .ensures .next, bytes-long (s .args .line .now) (s .args .q .rows) (s .pre .0), s .pre .1, s .pre .0 .order, s .pre .0 .short)) (c .before .before .before .before .put-unhex .ensures)) .counts .1
+slice-aggregate-build c = rows (c .before .before .before .before) .counts .1
 
 slice-relend-prefix-build : tie.Need-slice-relend-prefix-build
 slice-relend-prefix-build c = search needs
@@ -57,7 +68,7 @@ returns c =
     let m = c .before .before .before .before .before in
     let a = c .before .before .before .before .before .before .before .before .before .before .before .before .before .before .before .args in
     let b = c .before .before .build in
-    let e = (said (let s = c .before .before .before .before .before .before .before .before .before .before .before .before .before .before .before in omega (arith, c .before .before .before .before .before .before .before .before .put-unhex .ensures .next, bytes-long (s .args .line .now) (s .args .q .rows) (s .pre .0), s .pre .1, s .pre .0 .order, s .pre .0 .short)) (c .before .before .before .before .before .before .before .before .put-unhex .ensures)) .says in
+    let e = rows (c .before .before .before .before .before .before .before .before) .says in
     builds-first (a .q .n) (bytesOf (a .line .now) (a .q .rows)) (a .q .d) (a .q .room) (m .at-most .result) (take (m .at-most .result) (a .room .now)) (drop (m .at-most .result) (a .room .now)) _ (b .result)
     (m .at-most .ensures) (size m) (builds-as e (b .ensures))
 

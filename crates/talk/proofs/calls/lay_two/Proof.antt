@@ -1,6 +1,6 @@
 -- `talk::calls::lay_two` meets its contract. Assumes nothing.
 use native.Mathlib.Omega.{arith}
-use Rattle.talk.proofs.Laying.{digits-long, bytes-long, laid}
+use Rattle.talk.proofs.Laying.{bytes-long, bytes-put, laid}
 use borrow.Author.Needs.{needs}
 use Rattle.talk.proofs.calls.lay_two.Statement.{statement}
 use Rattle.talk.proofs.calls.lay_two.Tie as tie
@@ -27,25 +27,24 @@ part-put-unhex-end-2 : tie.Need-part-put-unhex-end-2
 part-put-unhex-end-2 c = search needs
 
 put-unhex-requires-2 : tie.Need-put-unhex-requires-2
-put-unhex-requires-2 c κs =
-    let a = c .before .before .before .before .before .before .before .before .before .args in
-    let h = c .before .before .before .before .before .before .before .before .before .pre in
-    let first = bytes-long (a .line .now) (a .p) (h .0 .first) in
-    let second = digits-long (a .line .now) (a .q) (h .0 .second) in
-    (omega (arith, c .before .before .before .before .put-unhex .ensures .next, first, second, h .1, h .0 .apart, h .0 .second .short, h .0 .first .order, h .0 .second .order), h .0 .second .digits)
+put-unhex-requires-2 c κs = search needs
 
 same-length : tie.Need-same-length
 same-length c = search needs
 
 returns : tie.Need-returns
 returns c =
-    let a = c .before .before .before .before .before .before .before .before .before .before .before .before .args in
-    let h = c .before .before .before .before .before .before .before .before .before .before .before .before .pre in
-    let x = c .before .before .before .before .before .before .before .put-unhex .ensures in
-    let y = c .before .before .put-unhex2 .ensures in
-    let first = bytes-long (a .line .now) (a .p) (h .0 .first) in
-    let second = bytes-long (a .line .now) (a .q) (h .0 .second) in
-    laid (a .line .now) (a .p) (a .q) x y (omega (arith, x .next, y .next, first, second, h .1, h .0 .apart, h .0 .second .short, h .0 .first .order, h .0 .second .order))
+    let start = c .before .before .before .before .before .before .before .before .before .before .before .before in
+    let a = start .args in
+    let h = start .pre in
+    let first = h .0 .first in
+    let second = h .0 .second in
+    let apart = h .0 .apart in
+    let x = bytes-put (a .line .now) (a .p) first (omega arith) (c .before .before .before .before .before .before .before .put-unhex .ensures) in
+    let m = bytes-long (a .line .now) (a .p) first in
+    let y = bytes-put (a .line .now) (a .q) second (omega arith) (c .before .before .put-unhex2 .ensures) in
+    let n = bytes-long (a .line .now) (a .q) second in
+    laid (a .line .now) (a .p) (a .q) x y (omega arith)
 
 pub lay-two-spec : {M : Type 1} → statement M
 lay-two-spec =

@@ -1,29 +1,22 @@
 -- `talk::held::put_group` meets its contract. Assumes nothing.
-use mathlib.Core.Path.{_≡_}
-use mathlib.Core.List.{[], _∷_, _++_}
 use native.Mathlib.Omega.{arith}
-use Rattle.text.proofs.Putting.{put-then, put-as}
-use Rattle.circuit.specs.Gate.{valueIn}
-use Rattle.listing.specs.Printed.{labelled}
-use Rattle.talk.specs.Texts.{groupText, valuesText}
+use Rattle.text.proofs.Putting.{put-then, put-free}
+use Rattle.talk.specs.Texts.{groupText}
 use borrow.Author.Needs.{needs}
 use Rattle.talk.proofs.held.put_group.Statement.{statement}
 use Rattle.talk.proofs.held.put_group.Tie as tie
 
-put-small-requires : tie.Need-put-small-requires
-put-small-requires c κs = search needs
+cast-put-numbered : tie.Need-cast-put-numbered
+cast-put-numbered c = search needs
 
-wide-requires : tie.Need-wide-requires
-wide-requires c κs = search needs
+put-numbered-requires : tie.Need-put-numbered-requires
+put-numbered-requires c κs = search needs
 
-put-small-requires-2 : tie.Need-put-small-requires-2
-put-small-requires-2 c κs = search needs
+put-numbered-requires-2 : tie.Need-put-numbered-requires-2
+put-numbered-requires-2 c κs = search needs
 
-wide-requires-2 : tie.Need-wide-requires-2
-wide-requires-2 c κs = search needs
-
-put-small-requires-3 : tie.Need-put-small-requires-3
-put-small-requires-3 c κs = search needs
+put-numbered-requires-3 : tie.Need-put-numbered-requires-3
+put-numbered-requires-3 c κs = search needs
 
 slice-aggregate-put : tie.Need-slice-aggregate-put
 slice-aggregate-put c = search needs
@@ -43,26 +36,21 @@ returns c =
     let values = c .before .before in
     let start = values .before .before .before .before in
     let anded = start .before .before .before .before .before in
-    let deep = anded .before .before .before .before .before in
-    let named = deep .before .before .before .before .before in
-    let a = named .before .before .before .args in
-    let d = deep .before .wide .ensures .0 in
-    let e = anded .before .wide2 .ensures .0 in
-    let three = put-then (omega arith) (put-then (omega arith) (named .put-small .ensures .0) (deep .put-small2 .ensures .0)) (anded .put-small3 .ensures .0) in
-    let all = put-then (omega arith) (put-then (omega arith) three (start .put .ensures)) (values .put-values .ensures .0) in
-    let same : _ ≡ groupText (a .line) (a .depth) (a .ands) (valuesText (valueIn (a .w)) (a .n)) =
-    λ i. labelled (32 ∷ []) (a .line) ++ labelled (58 ∷ []) (d i) ++ labelled (58 ∷ []) (e i) ++ (58 ∷ []) ++ valuesText (valueIn (a .w)) (a .n) in
-    (put-as same all, search needs)
+    let deep = anded .before .before .before .before in
+    let named = deep .before .before .before .before in
+    let two = put-then (omega arith) (put-free (omega arith) (named .put-numbered .ensures)) (put-free (omega arith) (deep .put-numbered2 .ensures)) in
+    let three = put-then (omega arith) two (put-free (omega arith) (anded .put-numbered3 .ensures)) in
+    let four = put-then (omega arith) three (put-free (omega arith) (start .put .ensures)) in
+    (put-then (omega arith) four (values .put-values .ensures .0), search needs)
 
 pub put-group-spec : {M : Type 1} → statement M
 put-group-spec =
     tie.close
     (tie.spec
-    put-small-requires
-    wide-requires
-    put-small-requires-2
-    wide-requires-2
-    put-small-requires-3
+    cast-put-numbered
+    put-numbered-requires
+    put-numbered-requires-2
+    put-numbered-requires-3
     slice-aggregate-put
     put-requires
     put-values-requires

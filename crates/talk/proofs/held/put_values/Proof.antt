@@ -8,8 +8,7 @@ use Rattle.circuit.specs.Gate.{valueIn}
 use Rattle.circuit.specs.Lines.{upto}
 use Rattle.circuit.proofs.Over.{upto-length}
 use Rattle.text.specs.Numbers.{hexText}
-use Rattle.text.proofs.Numbers.{text-length}
-use Rattle.text.proofs.Putting.{put-as}
+use Rattle.text.proofs.Putting.{put-as, put-free}
 use Rattle.talk.specs.Texts.{valueBytes, byteOf, valuesText}
 use borrow.Author.Needs.{needs}
 use Rattle.talk.proofs.held.put_values.Statement.{statement}
@@ -43,7 +42,7 @@ slice-aggregate-put-hex : tie.Need-slice-aggregate-put-hex
 slice-aggregate-put-hex c = omega (arith, size (c .before .before))
 
 put-hex-requires : tie.Need-put-hex-requires
-put-hex-requires c κs = let b = c .before .before in omega (arith, size b, b .byte-count .ensures .1, b .before .before .before .pre)
+put-hex-requires c κs = search needs
 
 same-length : tie.Need-same-length
 same-length c = search needs
@@ -51,9 +50,9 @@ same-length c = search needs
 returns : tie.Need-returns
 unfolding valuesText
 returns c =
-    let p = c .before .before .put-hex .ensures in
     let b = c .before .before .before .before .before in
-    (put-as (ap hexText (whole b)) p, omega (arith, p .next, text-length (take (b .byte-count .result) (b .before .value-bytes .result)), size b, b .byte-count .ensures .1))
+    let count = size b in
+    (put-as (ap hexText (whole b)) (put-free (omega arith) (c .before .before .put-hex .ensures)), omega arith)
 
 pub put-values-spec : {M : Type 1} → statement M
 put-values-spec =

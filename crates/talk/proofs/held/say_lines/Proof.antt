@@ -1,6 +1,6 @@
 -- `talk::held::say_lines` meets its contract. Assumes nothing.
 use native.Mathlib.Omega.{arith}
-use Rattle.text.proofs.Putting.{put-then}
+use Rattle.text.proofs.Putting.{put-then, put-free}
 use Rattle.talk.specs.Saying.{linesHeldIn}
 use Rattle.talk.proofs.Spoken.{said}
 use borrow.Author.Needs.{needs}
@@ -30,7 +30,7 @@ unfolding linesHeldIn
 returns c =
     let groups = c .before .before .before in
     let counted = groups .before .before in
-    said (search needs) (put-then (omega arith) (put-then (omega arith) (counted .put-labelled .ensures .0) (groups .put-groups .ensures .0)) (c .put .ensures))
+    said (search needs) (put-then (omega arith) (put-then (omega arith) (put-free (omega arith) (counted .put-labelled .ensures)) (groups .put-groups .ensures .0)) (put-free (omega arith) (c .put .ensures)))
 
 pub say-lines-spec : {M : Type 1} → statement M
 say-lines-spec =

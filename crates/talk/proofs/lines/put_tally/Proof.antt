@@ -1,6 +1,6 @@
 -- `talk::lines::put_tally` meets its contract. Assumes nothing.
 use native.Mathlib.Omega.{arith}
-use Rattle.text.proofs.Putting.{put-then}
+use Rattle.text.proofs.Putting.{put-then, put-free}
 use borrow.Author.Needs.{needs}
 use Rattle.talk.proofs.lines.put_tally.Statement.{statement}
 use Rattle.talk.proofs.lines.put_tally.Tie as tie
@@ -38,9 +38,9 @@ returns c =
     let nonlinear = nots .before .before .before .before .before in
     let xors = nonlinear .before .before .before .before .before in
     let gates = xors .before .before .before .before .before in
-    let two = put-then (omega arith) (gates .put-labelled .ensures .0) (xors .put-labelled2 .ensures .0) in
-    let three = put-then (omega arith) two (nonlinear .put-labelled3 .ensures .0) in
-    (put-then (omega arith) three (nots .put-labelled4 .ensures .0), search needs)
+    let two = put-then (omega arith) (put-free (omega arith) (gates .put-labelled .ensures)) (put-free (omega arith) (xors .put-labelled2 .ensures)) in
+    let three = put-then (omega arith) two (put-free (omega arith) (nonlinear .put-labelled3 .ensures)) in
+    (put-then (omega arith) three (put-free (omega arith) (nots .put-labelled4 .ensures)), search needs)
 
 pub put-tally-spec : {M : Type 1} → statement M
 put-tally-spec =

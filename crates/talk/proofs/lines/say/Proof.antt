@@ -1,4 +1,6 @@
 -- `talk::lines::say` meets its contract. Assumes nothing.
+use native.Mathlib.Omega.{arith}
+use Rattle.text.proofs.Putting.{put-free}
 use Rattle.talk.proofs.Spoken.{said}
 use borrow.Author.Needs.{needs}
 use Rattle.talk.proofs.lines.say.Statement.{statement}
@@ -8,7 +10,7 @@ put-requires : tie.Need-put-requires
 put-requires c κs = search needs
 
 returns : tie.Need-returns
-returns c = said (search needs) (c .put .ensures)
+returns c = said (search needs) (put-free (omega arith) (c .put .ensures))
 
 pub say-spec : {M : Type 1} → statement M
 say-spec = tie.close (tie.spec put-requires returns)

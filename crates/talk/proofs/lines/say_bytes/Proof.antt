@@ -1,11 +1,9 @@
 -- `talk::lines::say_bytes` meets its contract. Assumes nothing.
 use mathlib.Core.Path.{_≡_, ap}
-use Prim.Native.Nat.{ℕ, _≤_}
+use Prim.Native.Nat.{ℕ}
 use native.Mathlib.Omega.{arith}
 use lib.ListN.{length, take, length-take}
-use Rattle.text.proofs.Putting.{put-then}
-use Rattle.text.specs.Numbers.{hexText}
-use Rattle.text.proofs.Numbers.{text-length}
+use Rattle.text.proofs.Putting.{put-then, put-free}
 use Rattle.talk.specs.Texts.{hexLine}
 use Rattle.talk.proofs.Spoken.{said, said-as}
 use borrow.Author.Needs.{needs}
@@ -15,10 +13,6 @@ use Rattle.talk.proofs.lines.say_bytes.Tie as tie
 -- how many bytes are said
 size : (m : tie.After-at-most) → m .at-most .result ≡ length (take (m .at-most .result) (m .before .before .before .args .room .now))
 size m = let s = m .before .before .before in omega (arith, m .at-most .ensures, s .pre, length-take (m .at-most .result) (s .args .room .now))
-
--- their digits are few
-near : (m : tie.After-at-most) → length (hexText (take (m .at-most .result) (m .before .before .before .args .room .now))) ≤ 4096
-near m = omega (arith, size m, m .at-most .ensures, text-length (take (m .at-most .result) (m .before .before .before .args .room .now)))
 
 at-most-requires : tie.Need-at-most-requires
 at-most-requires c κs = search needs
@@ -36,13 +30,13 @@ slice-aggregate-put-hex : tie.Need-slice-aggregate-put-hex
 slice-aggregate-put-hex c = omega (arith, size (c .before .before .before .before .before .before .before))
 
 put-hex-requires : tie.Need-put-hex-requires
-put-hex-requires c κs = let m = c .before .before .before .before .before .before .before in omega (arith, size m, m .at-most .ensures, c .before .before .put .ensures .next, c .before .before .before .before .before .put-labelled .ensures .1)
+put-hex-requires c κs = search needs
 
 slice-aggregate-put-2 : tie.Need-slice-aggregate-put-2
 slice-aggregate-put-2 c = search needs
 
 put-requires-2 : tie.Need-put-requires-2
-put-requires-2 c κs = let m = c .before .before .before .before .before .before .before .before .before .before in omega (arith, near m, c .before .before .put-hex .ensures .next, c .before .before .before .before .before .put .ensures .next, c .before .before .before .before .before .before .before .before .put-labelled .ensures .1)
+put-requires-2 c κs = search needs
 
 returns : tie.Need-returns
 unfolding hexLine
@@ -52,9 +46,11 @@ returns c =
     let counted = space .before .before .before in
     let m = counted .before .before in
     let a = m .before .before .before .args in
-    let three = put-then (omega arith) (put-then (omega arith) (counted .put-labelled .ensures .0) (space .put .ensures)) (hex .put-hex .ensures) in
-    let all = put-then (omega arith) three (c .put2 .ensures) in
-    said-as (ap (λ (k : ℕ). hexLine (a .name .now) (a .count) (take k (a .room .now))) (m .at-most .ensures)) (said (omega (arith, near m, c .put2 .ensures .next, hex .put-hex .ensures .next, space .put .ensures .next, counted .put-labelled .ensures .1)) all)
+    let few = size m in
+    let two = put-then (omega arith) (put-free (omega arith) (counted .put-labelled .ensures)) (put-free (omega arith) (space .put .ensures)) in
+    let three = put-then (omega arith) two (put-free (omega arith) (hex .put-hex .ensures)) in
+    let all = put-then (omega arith) three (put-free (omega arith) (c .put2 .ensures)) in
+    said-as (ap (λ (k : ℕ). hexLine (a .name .now) (a .count) (take k (a .room .now))) (m .at-most .ensures)) (said (omega arith) all)
 
 pub say-bytes-spec : {M : Type 1} → statement M
 say-bytes-spec =

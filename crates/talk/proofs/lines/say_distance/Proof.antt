@@ -2,7 +2,8 @@
 use mathlib.Core.Path.{ap, _∙_}
 use mathlib.Core.List.{_++_}
 use Prim.Native.Nat.{ℕ}
-use Rattle.listing.specs.Printed.{labelled, newLine, refusedName}
+use Rattle.text.specs.Numbers.{labelled}
+use Rattle.listing.specs.Printed.{newLine, refusedName}
 use Rattle.talk.specs.Words.{distanceName}
 use Rattle.talk.proofs.Spoken.{said-as}
 use borrow.Author.Needs.{needs}

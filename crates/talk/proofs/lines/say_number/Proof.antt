@@ -1,6 +1,6 @@
 -- `talk::lines::say_number` meets its contract. Assumes nothing.
 use native.Mathlib.Omega.{arith}
-use Rattle.text.proofs.Putting.{put-then}
+use Rattle.text.proofs.Putting.{put-then, put-free}
 use Rattle.talk.proofs.Spoken.{said}
 use borrow.Author.Needs.{needs}
 use Rattle.talk.proofs.lines.say_number.Statement.{statement}
@@ -16,7 +16,7 @@ put-requires : tie.Need-put-requires
 put-requires c κs = search needs
 
 returns : tie.Need-returns
-returns c = said (search needs) (put-then (omega arith) (c .before .before .before .put-labelled .ensures .0) (c .put .ensures))
+returns c = said (search needs) (put-then (omega arith) (put-free (omega arith) (c .before .before .before .put-labelled .ensures)) (put-free (omega arith) (c .put .ensures)))
 
 pub say-number-spec : {M : Type 1} → statement M
 say-number-spec =

@@ -1,6 +1,5 @@
 -- `talk::lines::say_refused` meets its contract. Assumes nothing.
-use Rattle.listing.specs.Printed.{refusedText, refusedSize}
-use Rattle.listing.proofs.Listed.{put-free}
+use Rattle.text.proofs.Putting.{put-free}
 use Rattle.talk.proofs.Spoken.{said}
 use borrow.Author.Needs.{needs}
 use Rattle.talk.proofs.lines.say_refused.Statement.{statement}
@@ -10,7 +9,7 @@ put-refused-requires : tie.Need-put-refused-requires
 put-refused-requires c κs = search needs
 
 returns : tie.Need-returns
-returns c = said (search needs) (put-free refusedSize (refusedText (c .before .before .args .why)) (search needs) (c .put-refused .ensures .0))
+returns c = said (search needs) (put-free (search needs) (c .put-refused .ensures))
 
 pub say-refused-spec : {M : Type 1} → statement M
 say-refused-spec = tie.close (tie.spec put-refused-requires returns)

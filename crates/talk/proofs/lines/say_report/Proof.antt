@@ -2,8 +2,9 @@
 use mathlib.Core.Path.{_≡_}
 use mathlib.Core.List.{[], _∷_, _++_}
 use native.Mathlib.Omega.{arith}
-use Rattle.text.proofs.Putting.{put-then}
-use Rattle.listing.specs.Printed.{labelled, newLine}
+use Rattle.text.proofs.Putting.{put-then, put-free}
+use Rattle.text.specs.Numbers.{labelled}
+use Rattle.listing.specs.Printed.{newLine}
 use Rattle.talk.specs.Words.{depthName, andDepthName}
 use Rattle.talk.specs.Texts.{tallyText, reportText, verdictText}
 use Rattle.talk.proofs.Spoken.{said, said-as}
@@ -58,11 +59,11 @@ returns c =
     let r = counted .before .before .before .args .r in
     let d = depth .before .wide .ensures .0 in
     let a = ands .before .wide2 .ensures .0 in
-    let three = put-then (omega arith) (put-then (omega arith) (counted .put-tally .ensures .0) (depth .put-labelled .ensures .0)) (ands .put-labelled2 .ensures .0) in
-    let five = put-then (omega arith) (put-then (omega arith) three (space .put .ensures)) (judged .put-verdict .ensures .0) in
+    let three = put-then (omega arith) (put-then (omega arith) (counted .put-tally .ensures .0) (put-free (omega arith) (depth .put-labelled .ensures))) (put-free (omega arith) (ands .put-labelled2 .ensures)) in
+    let five = put-then (omega arith) (put-then (omega arith) three (put-free (omega arith) (space .put .ensures))) (judged .put-verdict .ensures .0) in
     let e : _ ≡ reportText r =
     λ i. tallyText (r .gates) (r .counts) ++ labelled depthName (d i) ++ labelled andDepthName (a i) ++ (32 ∷ []) ++ verdictText (r .verdict) ++ newLine in
-    said-as e (said (search needs) (put-then (omega arith) five (c .put2 .ensures)))
+    said-as e (said (search needs) (put-then (omega arith) five (put-free (omega arith) (c .put2 .ensures))))
 
 pub say-report-spec : {M : Type 1} → statement M
 say-report-spec =

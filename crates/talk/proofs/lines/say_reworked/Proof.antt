@@ -4,9 +4,9 @@ use mathlib.Core.List.{List, _++_}
 use Prim.Native.Nat.{ℕ}
 use native.Mathlib.Omega.{arith}
 use lib.ListN.{length, take, length-take}
-use Rattle.text.proofs.Putting.{put-then}
-use Rattle.text.specs.Numbers.{numbersText}
-use Rattle.listing.specs.Printed.{labelled, newLine}
+use Rattle.text.proofs.Putting.{put-then, put-free}
+use Rattle.text.specs.Numbers.{labelled, numbersText}
+use Rattle.listing.specs.Printed.{newLine}
 use Rattle.talk.specs.Words.{reworkedName}
 use Rattle.talk.specs.Texts.{reworkedText}
 use Rattle.talk.proofs.Spoken.{said, said-as, take-least}
@@ -34,13 +34,13 @@ slice-aggregate-put-numbers : tie.Need-slice-aggregate-put-numbers
 slice-aggregate-put-numbers c = let m = c .before .before .before .before .before in omega (arith, m .at-most .ensures, size (m .before), length-take (m .at-most .result) (m .before .args .t3))
 
 put-numbers-requires : tie.Need-put-numbers-requires
-put-numbers-requires c κs = let m = c .before .before .before .before .before in omega (arith, m .at-most .ensures, size (m .before), length-take (m .at-most .result) (m .before .args .t3), c .before .before .put-labelled .ensures .1)
+put-numbers-requires c κs = search needs
 
 slice-aggregate-put : tie.Need-slice-aggregate-put
 slice-aggregate-put c = search needs
 
 put-requires : tie.Need-put-requires
-put-requires c κs = let m = c .before .before .before .before .before .before .before .before in omega (arith, c .before .before .put-numbers .ensures .1, c .before .before .before .before .before .put-labelled .ensures .1, m .at-most .ensures, size (m .before), length-take (m .at-most .result) (m .before .args .t3))
+put-requires c κs = search needs
 
 returns : tie.Need-returns
 unfolding reworkedText
@@ -49,10 +49,13 @@ returns c =
     let counted = p .before .before .before in
     let m = counted .before .before .before in
     let a = m .before .args in
-    let all = put-then (omega arith) (put-then (omega arith) (counted .put-labelled .ensures .0) (p .put-numbers .ensures .0)) (c .put .ensures) in
     let k = ap (λ (x : ℕ). take x (a .t3)) (m .at-most .ensures) in
     let same = take-least (a .count) 256 (a .t3) (size (m .before)) in
-    said-as (ap (λ (l : List ℕ). labelled reworkedName (a .count) ++ numbersText l ++ newLine) (k ∙ same)) (said (omega (arith, c .put .ensures .next, p .put-numbers .ensures .1, counted .put-labelled .ensures .1, m .at-most .ensures, size (m .before), length-take (m .at-most .result) (a .t3))) all)
+    let long = size (m .before) in
+    let few = length-take (m .at-most .result) (a .t3) in
+    let two = put-then (omega arith) (put-free (omega arith) (counted .put-labelled .ensures)) (put-free (omega arith) (p .put-numbers .ensures)) in
+    let all = put-then (omega arith) two (put-free (omega arith) (c .put .ensures)) in
+    said-as (ap (λ (l : List ℕ). labelled reworkedName (a .count) ++ numbersText l ++ newLine) (k ∙ same)) (said (omega arith) all)
 
 pub say-reworked-spec : {M : Type 1} → statement M
 say-reworked-spec =

@@ -3,9 +3,9 @@ use mathlib.Core.Path.{ap}
 use mathlib.Core.List.{_++_}
 use Prim.Native.Nat.{ℕ}
 use native.Mathlib.Omega.{arith}
-use Rattle.text.proofs.Putting.{put-then}
-use Rattle.listing.specs.Printed.{labelled, newLine, countsText, linesIn, countsSize, linesSize}
-use Rattle.listing.proofs.Listed.{put-free}
+use Rattle.text.proofs.Putting.{put-then, put-free}
+use Rattle.text.specs.Numbers.{labelled}
+use Rattle.listing.specs.Printed.{newLine, countsText, linesIn}
 use Rattle.talk.specs.Words.{andDepthName}
 use Rattle.talk.specs.Texts.{verdictText}
 use Rattle.talk.specs.Saying.{shownWith}
@@ -54,12 +54,12 @@ returns c =
     let counted = ands .before .before .before .before in
     let x = counted .before .before .args .c in
     let r = counted .before .before .args .r in
-    let counts = put-free countsSize (countsText (x .n) (x .m) (x .g) (r .depth)) (search needs) (counted .put-counts .ensures .0) in
-    let lines = put-free linesSize (linesIn x) (search needs) (listed .put-lines .ensures .0) in
-    let three = put-then (omega arith) (put-then (omega arith) counts (ands .put-labelled .ensures .0)) (start .put .ensures) in
+    let counts = put-free (omega arith) (counted .put-counts .ensures) in
+    let lines = put-free (omega arith) (listed .put-lines .ensures) in
+    let three = put-then (omega arith) (put-then (omega arith) counts (put-free (omega arith) (ands .put-labelled .ensures))) (put-free (omega arith) (start .put .ensures)) in
     let five = put-then (omega arith) (put-then (omega arith) three lines) (judged .put-verdict .ensures .0) in
     let e = ap (λ (d : ℕ). countsText (x .n) (x .m) (x .g) (r .depth) ++ labelled andDepthName d ++ newLine ++ linesIn x ++ verdictText (r .verdict) ++ newLine) (ands .before .wide .ensures .0) in
-    said-as e (said (search needs) (put-then (omega arith) five (c .put2 .ensures)))
+    said-as e (said (search needs) (put-then (omega arith) five (put-free (omega arith) (c .put2 .ensures))))
 
 pub say-circuit-spec : {M : Type 1} → statement M
 say-circuit-spec =

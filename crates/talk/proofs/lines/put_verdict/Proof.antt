@@ -1,9 +1,9 @@
--- `talk::pieces::put_verdict` meets its contract. Assumes nothing.
+-- `talk::lines::put_verdict` meets its contract. Assumes nothing.
 use native.Mathlib.Omega.{arith}
-use Rattle.text.proofs.Putting.{put-then}
+use Rattle.text.proofs.Putting.{put-then, put-free}
 use borrow.Author.Needs.{needs}
-use Rattle.talk.proofs.pieces.put_verdict.Statement.{statement}
-use Rattle.talk.proofs.pieces.put_verdict.Tie as tie
+use Rattle.talk.proofs.lines.put_verdict.Statement.{statement}
+use Rattle.talk.proofs.lines.put_verdict.Tie as tie
 
 enum-known-verdict : tie.Need-enum-known-verdict
 enum-known-verdict c = search needs
@@ -64,7 +64,7 @@ returns c =
     let b = c .before .before in
     let a = b .before .before .before .before .before in
     let told = a .before .before .before .before .verdict .given .1 in
-    (rw told (put-then (omega arith) (a .put-labelled .ensures .0) (b .put-labelled2 .ensures .0)), search needs)
+    (rw told (put-then (omega arith) (put-free (omega arith) (a .put-labelled .ensures)) (put-free (omega arith) (b .put-labelled2 .ensures))), search needs)
 
 same-length-2 : tie.Need-same-length-2
 same-length-2 c = search needs
@@ -72,7 +72,7 @@ same-length-2 c = search needs
 returns-2 : tie.Need-returns-2
 returns-2 c =
     let p = c .before .before in
-    (rw (p .before .before .before .enum-told .given .1) (p .put .ensures), search needs)
+    (rw (p .before .before .before .enum-told .given .1) (put-free (omega arith) (p .put .ensures)), search needs)
 
 same-length-3 : tie.Need-same-length-3
 same-length-3 c = search needs
@@ -80,7 +80,7 @@ same-length-3 c = search needs
 returns-3 : tie.Need-returns-3
 returns-3 c =
     let p = c .before .before in
-    (rw (p .before .before .before .enum-told2 .given .1) (p .put2 .ensures), search needs)
+    (rw (p .before .before .before .enum-told2 .given .1) (put-free (omega arith) (p .put2 .ensures)), search needs)
 
 same-length-4 : tie.Need-same-length-4
 same-length-4 c = search needs
@@ -88,7 +88,7 @@ same-length-4 c = search needs
 returns-4 : tie.Need-returns-4
 returns-4 c =
     let p = c .before .before in
-    (rw (p .before .before .before .enum-told3 .given .1) (p .put3 .ensures), search needs)
+    (rw (p .before .before .before .enum-told3 .given .1) (put-free (omega arith) (p .put3 .ensures)), search needs)
 
 same-length-5 : tie.Need-same-length-5
 same-length-5 c = search needs
@@ -96,7 +96,7 @@ same-length-5 c = search needs
 returns-5 : tie.Need-returns-5
 returns-5 c =
     let p = c .before .before in
-    (rw (p .before .before .before .enum-told4 .given .1) (p .put4 .ensures), search needs)
+    (rw (p .before .before .before .enum-told4 .given .1) (put-free (omega arith) (p .put4 .ensures)), search needs)
 
 pub put-verdict-spec : {M : Type 1} → statement M
 put-verdict-spec =

@@ -1,10 +1,10 @@
--- `listing::is_free` meets its contract. Assumes nothing.
+-- `text::is_free` meets its contract. Assumes nothing.
 use mathlib.Core.Path.{sym}
 use Prim.Native.Nat.{_+_}
 use native.Mathlib.Omega.{arith}
 use borrow.Author.Tests.{le-leb, lt-leb}
-use Rattle.listing.proofs.is_free.Statement.{statement}
-use Rattle.listing.proofs.is_free.Tie as tie
+use Rattle.text.proofs.is_free.Statement.{statement}
+use Rattle.text.proofs.is_free.Tie as tie
 
 returns : tie.Need-returns
 returns c = let a = c .before .args in sym (lt-leb (a .at + a .size) (a .len) (omega arith))
