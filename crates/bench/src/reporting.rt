@@ -5,7 +5,6 @@ ghost use Prim.Native.Nat.{_+_, _^_, _<_, _≤_};
 ghost use lib.Dec.{eqb, ltb};
 ghost use lib.ListN.{getD, take};
 ghost use Rattle.circuit.specs.Gate.{bit, valueIn};
-ghost use Rattle.circuit.specs.Lines.{greatest};
 ghost use Rattle.bench.specs.State.{least};
 ghost use Rattle.bench.specs.Calls.{ReportPromise};
 ghost use Rattle.bench.specs.Parts.{differences, differsIn, judged};
@@ -17,6 +16,7 @@ use crate::Verdict;
 use crate::edits::is_standing;
 use circuit::Refusal;
 use circuit::Words;
+use circuit::depth::greatest_of;
 use circuit::gate;
 use circuit::wide;
 
@@ -109,21 +109,6 @@ fn lowest_output(b: Bench, x: usize) -> usize
         j += 1;
     }
     m
-}
-
-// The greatest of the first entries.
-fn greatest_of(entries: &[u8]) -> u8
-    ensures { λ r. ⌜ r ≡ greatest (now (entries .entry)) ⌝ }
-{
-    let mut top: u8 = 0;
-    let mut i: usize = 0;
-    while i < entries.len() {
-        if top < entries[i] {
-            top = entries[i];
-        }
-        i += 1;
-    }
-    top
 }
 
 // The first verdict that applies.

@@ -4,11 +4,11 @@ ghost use Prim.Native.Nat.{_≤_, _<_};
 ghost use Rattle.builder.specs.Kept.{rowsOf, padded, Capped, base, nextGap, nextGaps, Lowering, Poised, Tabled, Next, Stepped, Stands, Chosen, Grown};
 use crate::pairs::Turn;
 use crate::pairs::above;
-use crate::pairs::greatest_of;
 use crate::pairs::misses;
 use crate::pairs::next_gate;
 use crate::table::add_line;
 use crate::table::fill;
+use circuit::depth::greatest_of;
 use distance::table::cost;
 
 // The lines so far, the rows' distances from them, and the operands of the gates taken.

@@ -2,10 +2,10 @@
 ghost use mathlib.Core.Path.{_≡_};
 ghost use Prim.Native.Nat.{ℕ, suc, max, _+_, _≤_, _<_};
 ghost use lib.ListN.{length, getD};
-ghost use Rattle.circuit.specs.Lines.{greatest};
 ghost use Rattle.distance.specs.Base.{lines, Shallow, gate};
 ghost use Rattle.builder.specs.Rule.{row, squares, best, better, start, firstPair, allPairs, bestPair};
 ghost use Rattle.builder.specs.Kept.{rowsOf, Capped, misses as missesOf, goalsAfter, goalsWith, Goals as AreGoals, Weighing, Aimed, Choosing, Chosen};
+use circuit::depth::greatest_of;
 use distance::table::cost;
 
 // The rows that are not made yet: the table's place, the room 2^limit, and the distance less one, of each.
@@ -43,19 +43,6 @@ pub(crate) fn above(x: u8, y: u8) -> u8
     ensures { λ r. ⌜ r ≡ suc (max x y) ⌝ }
 {
     if x < y { y + 1 } else { x + 1 }
-}
-
-// The greatest of some numbers, or 0.
-pub(crate) fn greatest_of(xs: &[u8]) -> u8
-    ensures { λ r. ⌜ r ≡ greatest (now (xs .entry)) ⌝ }
-{
-    let mut top: u8 = 0;
-    for i in 0..xs.len() {
-        if top < xs[i] {
-            top = xs[i];
-        }
-    }
-    top
 }
 
 // 0 where a line with mask m and cost c brings a goal one gate nearer, and 1 where the goal stays where it is. A line made

@@ -4,6 +4,7 @@ pub mod LineLaws
 pub mod Keep
 pub mod WordLaws
 pub mod Counting
+pub mod Depths
 pub mod Records
 pub mod Accept
 pub mod Round

@@ -4,6 +4,7 @@ ghost use Prim.Native.Nat.{_<_};
 ghost use Rattle.circuit.specs.Reading.{refusalNo};
 
 pub mod gate; // gate.rt: one gate on whole words, its counts and what it reads
+pub mod depth; // depth.rt: the depth of a gate over what it reads, and of a circuit
 pub mod reader; // reader.rt: stored bytes to a circuit
 pub mod writer; // writer.rt: a circuit to stored bytes in a lent room
 pub mod restore; // restore.rt: both in one call
