@@ -1,7 +1,7 @@
 // The examination of lines: all of them afresh, or only those that read a replaced gate.
 ghost use mathlib.Core.Path.{_≡_};
 ghost use mathlib.Core.Bool.{_||_};
-ghost use Prim.Native.Nat.{suc, max, _+_, _<_, _≤_};
+ghost use Prim.Native.Nat.{max, _+_, _<_, _≤_};
 ghost use lib.ListN.{getD, take};
 ghost use Rattle.circuit.specs.Gate.{kindOf, nonlinear, noWords};
 ghost use Rattle.circuit.specs.Lines.{inputWords};
@@ -9,6 +9,7 @@ ghost use Rattle.bench.specs.Held.{padded};
 ghost use Rattle.bench.specs.Parts.{examined, Reexamined};
 use crate::Bench;
 use circuit::Words;
+use circuit::depth::deeper;
 use circuit::gate;
 use circuit::wide;
 
@@ -70,14 +71,6 @@ pub(crate) fn input_words(i: usize) -> Words
     ensures { λ r. ⌜ r ≡ getD inputWords i noWords ⌝ }
 {
     INPUTS[i]
-}
-
-// One more than the greater of two depths. It stays within a byte, on any bench.
-fn deeper(a: u8, b: u8) -> u8
-    ensures { λ r. ⌜ (max a b < 255 → r ≡ suc (max a b)) ⌝ }
-{
-    let top = if a < b { b } else { a };
-    if top < 255 { top + 1 } else { top }
 }
 
 // The greater of two AND depths, and one more for a nonlinear gate.

@@ -3,11 +3,11 @@ ghost use mathlib.Core.Path.{_≡_};
 ghost use Prim.Native.Nat.{_≤_, _<_};
 ghost use Rattle.builder.specs.Kept.{rowsOf, padded, Capped, base, nextGap, nextGaps, Lowering, Poised, Tabled, Next, Stepped, Stands, Chosen, Grown};
 use crate::pairs::Turn;
-use crate::pairs::above;
 use crate::pairs::misses;
 use crate::pairs::next_gate;
 use crate::table::add_line;
 use crate::table::fill;
+use circuit::depth::deeper;
 use circuit::depth::greatest_of;
 use distance::table::cost;
 
@@ -79,7 +79,7 @@ fn add_gate(s: State, rows: &[u8], limits: &[u8], h: &mut [u32; 2304], a: usize,
     let mut right = s.right;
     let old = s.gaps;
     let m = masks[a] ^ masks[b];
-    let depth = above(depths[a], depths[b]);
+    let depth = deeper(depths[a], depths[b]);
     let c = cost(depth);
     let gaps = lowered(&old[..rows.len()], rows, limits, h, m, c);
     let top = greatest_of(&gaps[..rows.len()]);

@@ -1,8 +1,9 @@
--- Laws of the greatest of some numbers. Assumes nothing.
+-- Laws of the greatest of some numbers, and of depths. Assumes nothing.
 use mathlib.Core.List.{List}
 use mathlib.Core.Path.{_≡_, sym, ap, _∙_}
-use Prim.Native.Nat.{ℕ, _+_, _≤_, _<_, max}
+use Prim.Native.Nat.{ℕ, suc, _+_, _≤_, _<_, min, max}
 use native.Mathlib.Numerals.{add-one}
+use native.Mathlib.Omega.{arith}
 use lib.ListN.{length, getD, drop, drop-of-length-le}
 use lib.Seq.{drop-cons}
 use Rattle.circuit.specs.Lines.{greatest}
@@ -16,3 +17,9 @@ greatest-next xs i h = ap greatest (drop-cons xs i 0 h) ∙ ap (λ (k : ℕ). ma
 -- past the last there is none
 pub greatest-end : (xs : List ℕ) (i : ℕ) → length xs ≤ i → greatest (drop i xs) ≡ 0
 greatest-end xs i h = ap greatest (drop-of-length-le xs h)
+
+-- ---- the depth of a gate
+
+-- one more than the greater of two depths, where a byte holds that
+pub deeper-is : (a b r : ℕ) → a < 255 → b < 255 → r ≡ min 255 (suc (max a b)) → r ≡ suc (max a b)
+deeper-is a b r p q e = omega arith
