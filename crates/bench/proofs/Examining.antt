@@ -9,11 +9,11 @@ use Rattle.circuit.specs.Gate.{kindOf, nonlinear, wordsOf, noWords}
 use Rattle.circuit.specs.Lines.{Gate, lines, depthStep, andStep, wordsStep, inputWords, depths, andDepths, words}
 use Rattle.circuit.proofs.LineLaws.{made, lines-suc, lines-length, depth-le, and-depth-le, put-next, pad-read, pad-next}
 use Rattle.circuit.proofs.Depths.{deeper-is}
+use Rattle.circuit.proofs.Operands.{second, depth-two, and-two, words-two}
 use Rattle.bench.specs.declared.Bench.{Bench}
 use Rattle.bench.specs.Held.{padded}
 use Rattle.bench.specs.Parts.{gateOf, holding, entries, examinedAs, examined}
 use Rattle.bench.proofs.Padding.{padded-none}
-use Rattle.bench.proofs.Operands.{second, depth-two, and-two, words-two}
 
 -- ---- an array with an entry a line
 

@@ -16,6 +16,7 @@ use Rattle.circuit.specs.declared.Refusal.the-variants.{NothingOpen}
 use Rattle.circuit.specs.Gate.{noWords, valueIn, tallyOf}
 use Rattle.circuit.specs.Lines.{Gate, gateAt, depthStep, andStep, lines, upto, words, outputOn, depthOf, andDepthOf, greatest}
 use Rattle.circuit.proofs.LineLaws.{pad-read, place, lines-length}
+use Rattle.circuit.proofs.Over.{upto-at}
 use Rattle.circuit.proofs.WordLaws.{words-values}
 use Rattle.bench.specs.declared.Bench.{Bench}
 use Rattle.bench.specs.declared.Verdict.{Verdict}
@@ -31,7 +32,7 @@ use Rattle.bench.proofs.Standing.{circuit-fits}
 use Rattle.bench.proofs.Stood.{openOn, when-open, when-shut}
 use Rattle.bench.proofs.Smallest.{least-same, least-here, least-past, least-from}
 use Rattle.bench.proofs.Differing.{found-is}
-use Rattle.bench.proofs.Wanting.{upto-at, wanted-value}
+use Rattle.bench.proofs.Wanting.{wanted-value}
 
 -- ---- the first verdict that applies to a bench
 

@@ -4,11 +4,12 @@ pub mod LineLaws
 pub mod Keep
 pub mod WordLaws
 pub mod Counting
-pub mod Depths
 pub mod Records
 pub mod Accept
 pub mod Round
 pub mod Over
+pub mod Operands
+pub mod Depths
 pub mod Written
 pub mod Back
 pub mod Restoring

@@ -1,15 +1,16 @@
 -- Laws of writing a part of a list over. Assumes nothing.
 use mathlib.Core.Path.{_≡_, refl, ap, _∙_, sym, subst}
+use mathlib.Core.Logic.{⊎-elim}
 use mathlib.Core.List.{List, [], _∷_, _++_, append-assoc, append-nil}
 use Prim.Native.Nat.{ℕ, zero, suc, _≤_, _<_, _-_, _+_, _*_}
-use native.Mathlib.Nat.{add-zero, mul-suc}
+use native.Mathlib.Nat.{add-zero, mul-suc, eq-or-lt-of-le}
 use native.Mathlib.Numerals.{add-one}
 use native.Mathlib.Omega.{arith}
-use lib.ListN.{length, getD, take, drop, set, length-append, length-drop, take-append-drop}
-use lib.Seq.{sets, sets-eq, take-at, drop-at, drop-append-add, drop-drop, length-take-le}
-use Rattle.circuit.specs.Lines.{Gate}
-use Rattle.circuit.specs.Stored.{gateBytes, outBytes}
-use Rattle.circuit.specs.Lines.{upto}
+use lib.ListN.{length, getD, take, drop, set, length-append, length-drop, take-append-drop, List·getD-append}
+use lib.Seq.{getD-at, sets, sets-eq, take-at, drop-at, drop-append-add, drop-drop, length-take-le}
+use Rattle.circuit.specs.declared.Circuit.{Circuit}
+use Rattle.circuit.specs.Lines.{Gate, noGate, gateAt, upto}
+use Rattle.circuit.specs.Stored.{gateBytes, outBytes, gateOf, listed}
 use Rattle.circuit.specs.Writing.{over}
 
 pub over-none : (R : List ℕ) (at : ℕ) → R ≡ over R at []
@@ -69,6 +70,19 @@ pub upto-length : {A : Type 0} (f : ℕ → A) (j : ℕ) → length (upto f j) �
 unfolding upto
 upto-length f zero = refl
 upto-length f (suc j) = omega (arith, length-append (upto f j) (f j ∷ []), upto-length f j)
+
+-- element k of f 0, f 1, ..
+pub upto-at : {A : Type 0} (f : ℕ → A) (d : A) (j k : ℕ) → k < j → getD (upto f j) k d ≡ f k
+unfolding upto
+upto-at f d zero k h = absurd (omega arith)
+upto-at f d (suc j) k h =
+    ⊎-elim (λ e. getD-at (upto f j) (f j) [] d k (upto-length f j ∙ sym e) ∙ ap f (sym e))
+    (λ l. List·getD-append (upto f j) (f j ∷ []) d k (omega (arith, upto-length f j)) ∙ upto-at f d j k l)
+    (eq-or-lt-of-le {n = k} {m = j} (omega arith))
+
+-- gate k of the circuit that a struct stands for
+pub gate-listed : (c : Circuit) (k : ℕ) → k < c .g → gateAt (listed c) k ≡ gateOf c k
+gate-listed c k h = upto-at (gateOf c) noGate (c .g) k h
 
 pub gate-bytes-snoc : (qs : List Gate) (q : Gate) → gateBytes (qs ++ (q ∷ [])) ≡ gateBytes qs ++ (71 ∷ 84 ∷ q .kind ∷ q .left ∷ q .right ∷ [])
 unfolding gateBytes

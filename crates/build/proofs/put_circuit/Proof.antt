@@ -5,8 +5,7 @@ use Prim.Native.Nat.{ℕ}
 use native.Mathlib.Omega.{arith}
 use Rattle.text.proofs.Putting.{put-then, put-as, counted}
 use Rattle.listing.specs.Printed.{countsText, newLine, linesIn, countsSize, linesSize}
-use Rattle.listing.proofs.Listed.{put-free}
-use Rattle.listing.proofs.Depths.{listing-of}
+use Rattle.listing.proofs.Listed.{put-free, listing-of}
 use borrow.Author.Needs.{needs}
 use Rattle.build.proofs.put_circuit.Statement.{statement}
 use Rattle.build.proofs.put_circuit.Tie as tie
