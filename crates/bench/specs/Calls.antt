@@ -1,20 +1,19 @@
 -- The calls as functions on what is present: what each answers, what is present after it, and what the code promises of it.
 use mathlib.Core.Path.{_≡_}
-use mathlib.Core.Bool.{Bool, true, false, cond}
-use mathlib.Core.List.{List, [], _∷_, _++_}
-use Prim.Native.Nat.{ℕ, zero, suc, _+_, _-_, _^_}
-use lib.Dec.{leb, ltb}
-use lib.ListN.{length, getD, set, drop, replicate}
-use Rattle.circuit.specs.declared.Refusal.{Refusal}
-use Rattle.circuit.specs.declared.Refusal.the-variants.{Target as BadTarget, NoRoom, NotThere, NothingOpen}
+use mathlib.Core.Bool.{Bool, cond}
+use mathlib.Core.List.{List, [], _∷_}
+use Prim.Native.Nat.{ℕ, suc, _+_, _^_}
+use lib.Dec.{ltb}
+use lib.ListN.{length, set, replicate}
+use Rattle.circuit.specs.declared.Refusal.the-variants.{Target as BadTarget, NotThere, NothingOpen}
 use Rattle.circuit.specs.declared.Answer.{Answer}
 use Rattle.circuit.specs.declared.Answer.the-variants.{Done, Refused}
 use Rattle.circuit.specs.declared.Writing.{Writing}
-use Rattle.circuit.specs.declared.Writing.the-variants.{Written, NotWritten}
+use Rattle.circuit.specs.declared.Writing.the-variants.{NotWritten}
 use Rattle.circuit.specs.Lines.{Gate, Listing, gateAt, reached}
 use Rattle.circuit.specs.Stored.{stored, listingIn}
 use Rattle.circuit.specs.Reading.{unless, andThen, gateAnswer, outAnswer, readAnswer}
-use Rattle.circuit.specs.Writing.{roomAfter}
+use Rattle.circuit.specs.Writing.{intoRoom, roomAfter}
 use Rattle.bench.specs.declared.Bench.{Bench}
 use Rattle.bench.specs.declared.Edit.{Edit}
 use Rattle.bench.specs.declared.Reported.{Reported}
@@ -157,9 +156,7 @@ reported (present s) = Given (reportOf s)
 -- what storing answers, for a room so long: nothing open (13), room too short (11)
 unfoldable pub storeAnswer : Present → ℕ → Writing
 storeAnswer nothing room = NotWritten NothingOpen
-storeAnswer (present s) room =
-    let size = length (stored (s .circuit)) in
-    cond (leb size room) (Written size) (NotWritten NoRoom)
+storeAnswer (present s) room = intoRoom Done (length (stored (s .circuit))) room
 
 -- the bytes that are stored
 abbrev pub storedOf : Present → List ℕ
