@@ -1,6 +1,7 @@
 // Circuits: gates and lines, their stored form, and the numbers of the refusals.
 ghost use mathlib.Core.Path.{_≡_};
 ghost use Prim.Native.Nat.{_<_};
+ghost use Rattle.circuit.specs.Stored.{noCircuit};
 ghost use Rattle.circuit.specs.Reading.{refusalNo};
 
 pub mod gate; // gate.rt: one gate on whole words, its counts and what it reads
@@ -68,6 +69,25 @@ pub struct Reading {
 pub enum Writing {
     Written(usize),
     NotWritten(Refusal),
+}
+
+// No circuit: what stands beside a refusal.
+pub fn no_circuit() -> Circuit
+    ensures { λ r. ⌜ r ≡ noCircuit ⌝ }
+{
+    let kinds = [0u8; 248];
+    let left = [0u8; 248];
+    let right = [0u8; 248];
+    let outputs = [0u8; 32];
+    Circuit {
+        n: 0,
+        m: 0,
+        g: 0,
+        kinds,
+        left,
+        right,
+        outputs,
+    }
 }
 
 // A byte as an index.
