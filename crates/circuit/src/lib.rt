@@ -1,6 +1,6 @@
 // Circuits: gates and lines, their stored form, and the numbers of the refusals.
 ghost use mathlib.Core.Path.{_≡_};
-ghost use Prim.Native.Nat.{_<_};
+ghost use Prim.Native.Nat.{_<_, _%_};
 ghost use Rattle.circuit.specs.Stored.{noCircuit};
 ghost use Rattle.circuit.specs.Reading.{refusalNo};
 
@@ -95,6 +95,13 @@ pub fn wide(x: u8) -> usize
     ensures { λ r. ⌜ (r ≡ x) × (r < 256) ⌝ }
 {
     x as usize
+}
+
+// The lowest byte of a number: the number itself where it is below 256.
+pub fn low_byte(x: usize) -> u8
+    ensures { λ r. ⌜ r ≡ x % 256 ⌝ }
+{
+    (x % 256) as u8
 }
 
 // The definition's number of a refusal.

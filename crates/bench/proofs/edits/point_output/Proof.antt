@@ -1,6 +1,7 @@
 -- `bench::edits::point_output` meets its contract. Assumes nothing.
 use mathlib.Core.Path.{_≡_, _∙_, sym, subst}
 use Prim.Native.Nat.{ℕ}
+use native.Mathlib.Nat.{mod-eq-of-lt}
 use native.Mathlib.Omega.{arith}
 use lib.ListN.{set}
 use Rattle.circuit.specs.declared.Answer.the-variants.{Done}
@@ -30,8 +31,8 @@ looked c = sym (c .before .before .look-at-output .ensures) ∙ c .enum-told .gi
 ok : (c : tie.After-enum-told) → let a = c .before .before .before .args in OutputFits (a .bench .n) (a .bench .m) (a .bench .g) (a .j) (a .line)
 ok c = output-fits _ _ _ _ _ _ (looked c)
 
-byte-requires : tie.Need-byte-requires
-byte-requires c κs = omega (arith, ok c, ok c .shape)
+low-byte-requires : tie.Need-low-byte-requires
+low-byte-requires c κs = search needs
 
 element-write-c : tie.Need-element-write-c
 element-write-c c = omega (arith, ok (c .before), ok (c .before) .shape)
@@ -51,7 +52,7 @@ returns-2 c =
     let t = c .before .before in
     let a = t .before .before .before .args in
     subst (λ (x : ℕ). OutputPromise (a .bench) (a .j) (a .line) (c .without-lines2 .result) (pointing (a .bench) (set (a .bench .outputs) (a .j) x)))
-    (sym (c .before .byte .ensures)) (output-done (a .j) (a .line) (a .bench) _ (looked t) (c .without-lines2 .ensures))
+    (sym (c .before .low-byte .ensures ∙ mod-eq-of-lt (omega (arith, ok t, ok t .shape)))) (output-done (a .j) (a .line) (a .bench) _ (looked t) (c .without-lines2 .ensures))
 
 pub point-output-spec : {M : Type 1} → statement M
 point-output-spec =
@@ -61,7 +62,7 @@ point-output-spec =
     enum-known-look
     without-lines-requires
     enum-told
-    byte-requires
+    low-byte-requires
     element-write-c
     without-lines-requires-2
     returns
