@@ -8,6 +8,7 @@ ghost use Rattle.circuit.specs.Lines.{inputWords};
 ghost use Rattle.bench.specs.Held.{padded};
 ghost use Rattle.bench.specs.Parts.{examined, Reexamined};
 use crate::Bench;
+use circuit::NO_WORDS;
 use circuit::Words;
 use circuit::depth::deeper;
 use circuit::gate;
@@ -90,12 +91,7 @@ fn inputs_only(n: usize) -> [Words; 256]
     requires { ⌜ n ≤ 8 ⌝ }
     ensures { λ r. ⌜ r ≡ padded (take n inputWords) 256 noWords ⌝ }
 {
-    let mut values = [Words {
-        w0: 0,
-        w1: 0,
-        w2: 0,
-        w3: 0,
-    }; 256];
+    let mut values = [NO_WORDS; 256];
     let mut i: usize = 0;
     while i < n {
         values[i] = input_words(i);
