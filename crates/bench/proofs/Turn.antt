@@ -8,7 +8,7 @@ use lib.Dec.{eqb}
 use lib.ListN.{length, getD, set, take, drop, replicate, length-replicate, replicate-append-replicate}
 use Rattle.circuit.specs.declared.Words.{Words}
 use Rattle.circuit.specs.Gate.{noWords}
-use Rattle.circuit.specs.Lines.{Gate, lines, depthStep, andStep, wordsStep, reachStep, inputWords, depths, andDepths, words, reached}
+use Rattle.circuit.specs.Lines.{Gate, depthStep, andStep, wordsStep, reachStep, inputWords, depths, andDepths, words, reached}
 use Rattle.circuit.proofs.LineLaws.{made, unreached}
 use Rattle.circuit.proofs.Keep.{kept-read, kept-hit, kept-start, kept-miss, kept-done}
 use Rattle.circuit.proofs.Operands.{second, reach-two, reads-below}

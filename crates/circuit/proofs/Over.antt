@@ -1,5 +1,5 @@
--- Laws of writing a part of a list over. Assumes nothing.
-use mathlib.Core.Path.{_≡_, refl, ap, _∙_, sym, subst}
+-- Laws of writing a part of a list over, and of lists that grow at the end. Assumes nothing.
+use mathlib.Core.Path.{_≡_, refl, ap, _∙_, sym}
 use mathlib.Core.Logic.{⊎-elim}
 use mathlib.Core.List.{List, [], _∷_, _++_, append-assoc, append-nil}
 use Prim.Native.Nat.{ℕ, zero, suc, _≤_, _<_, _-_, _+_, _*_}
@@ -7,7 +7,7 @@ use native.Mathlib.Nat.{add-zero, mul-suc, eq-or-lt-of-le}
 use native.Mathlib.Numerals.{add-one}
 use native.Mathlib.Omega.{arith}
 use lib.ListN.{length, getD, take, drop, set, length-append, length-drop, take-append-drop, List·getD-append}
-use lib.Seq.{getD-at, sets, sets-eq, take-at, drop-at, drop-append-add, drop-drop, length-take-le}
+use lib.Seq.{getD-at, sets-eq, take-at, drop-append-add, drop-drop, length-take-le}
 use Rattle.circuit.specs.declared.Circuit.{Circuit}
 use Rattle.circuit.specs.Lines.{Gate, noGate, gateAt, upto}
 use Rattle.circuit.specs.Stored.{gateBytes, outBytes, gateOf, listed}

@@ -10,7 +10,7 @@ use Rattle.circuit.specs.declared.Answer.the-variants.{Done}
 use Rattle.circuit.specs.Lines.{Gate, Listing, gateAt, reads, lines, greatest, overall, depthStep, andStep, depths, andDepths, depthOf, andDepthOf}
 use Rattle.circuit.specs.Reading.{listingAnswer}
 use Rattle.circuit.proofs.Keep.{Below}
-use Rattle.circuit.proofs.LineLaws.{made, lines-length, lines-more, lines-at, greatest-read}
+use Rattle.circuit.proofs.LineLaws.{lines-length, lines-more, lines-at, greatest-read}
 use Rattle.bench.proofs.Standing.{circuit-fits, all-below}
 use Rattle.circuit.proofs.Operands.{reads-below}
 
