@@ -18,10 +18,10 @@ use Rattle.circuit.proofs.Accept.{Shaped, past}
 use Rattle.bench.specs.declared.Bench.{Bench}
 use Rattle.bench.specs.declared.Edit.{Edit}
 use Rattle.bench.specs.declared.Edited.{Edited}
-use Rattle.bench.specs.State.{State, Sound, SoundPresent, Present, nothing, present}
+use Rattle.bench.specs.State.{State, Sound, SoundPresent, Present, nothing, present, limits}
 use Rattle.bench.specs.Held.{padded, wantedWords, emptyBench, fullBench, benchOf, Stands}
 use Rattle.bench.specs.Calls.{after, noRework, outputEditAnswer, outputEdited, afterOutput, afterLimits, OutputPromise, LimitsPromise}
-use Rattle.bench.specs.Parts.{limits, standing, outputLook, unreworked}
+use Rattle.bench.specs.Parts.{standing, outputLook, unreworked}
 use Rattle.bench.proofs.Standing.{full-standing, out-below}
 use Rattle.bench.proofs.Padding.{padded-set}
 use Rattle.bench.proofs.Stood.{openOn, standing-shaped, when-open, when-shut}

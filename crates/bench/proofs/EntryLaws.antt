@@ -21,11 +21,11 @@ use Rattle.circuit.proofs.Accept.{Shaped, past, both}
 use Rattle.circuit.proofs.LineLaws.{pad-read}
 use Rattle.bench.specs.declared.Bench.{Bench}
 use Rattle.bench.specs.declared.Edited.{Edited}
-use Rattle.bench.specs.Target.{Target, matrix, table, isMatrix, bytesOf, rowFits, entryFits, allOf, targetFits}
+use Rattle.bench.specs.Target.{Target, matrix, table, isMatrix, bytesOf, rowFits, entryFits, allOf, targetFits, targetOf}
 use Rattle.bench.specs.State.{State, Sound, Present, nothing, present}
 use Rattle.bench.specs.Held.{padded, packed, rowWords, wantedWords, emptyBench, fullBench, benchOf, Stands}
 use Rattle.bench.specs.Calls.{after, entryAnswer, entryEditAnswer, withEntry, entryEdited, afterEntry, EntryPromise}
-use Rattle.bench.specs.Parts.{targetOf, valueFits, standing, entryLook, unreworked}
+use Rattle.bench.specs.Parts.{valueFits, standing, entryLook, unreworked}
 use Rattle.bench.proofs.Standing.{circuit-fits, full-standing}
 use Rattle.bench.proofs.Stood.{standing-shaped}
 use Rattle.bench.proofs.Padding.{padded-set}

@@ -1,18 +1,19 @@
 -- Lines examined one by one: what is held after some gates, one gate more, and the loop of `examine`. Assumes nothing.
 use mathlib.Core.Path.{_≡_, ap, ap₂, _∙_, sym}
 use mathlib.Core.List.{List, [], _∷_, _++_, append-assoc}
-use Prim.Native.Nat.{ℕ, suc, _≤_, _<_, _-_, _+_, max}
+use Prim.Native.Nat.{ℕ, suc, _≤_, _<_, _-_, _+_, min, max}
 use native.Mathlib.Omega.{arith}
 use lib.ListN.{length, getD, set, take, replicate, length-append, length-replicate, length-take}
 use Rattle.circuit.specs.declared.Words.{Words}
 use Rattle.circuit.specs.Gate.{kindOf, nonlinear, wordsOf, noWords}
 use Rattle.circuit.specs.Lines.{Gate, lines, depthStep, andStep, wordsStep, inputWords, depths, andDepths, words}
 use Rattle.circuit.proofs.LineLaws.{made, lines-suc, lines-length, depth-le, and-depth-le, put-next, pad-read, pad-next}
+use Rattle.circuit.proofs.Depths.{deeper-is}
+use Rattle.circuit.proofs.Operands.{second, depth-two, and-two, words-two}
 use Rattle.bench.specs.declared.Bench.{Bench}
 use Rattle.bench.specs.Held.{padded}
 use Rattle.bench.specs.Parts.{gateOf, holding, entries, examinedAs, examined}
 use Rattle.bench.proofs.Padding.{padded-none}
-use Rattle.bench.proofs.Operands.{second, depth-two, and-two, words-two}
 
 -- ---- an array with an entry a line
 
@@ -55,7 +56,7 @@ inputs-length n h = omega (arith, length-take n inputWords)
 
 -- what a turn stores of gate q, whose lines are held at x and y: depths within a byte
 pub record Stored (q : Gate) (c : Bench) (x y d a : ℕ) (w : Words) : Type 0 where
-  pub depth : max (getD (c .depths) x 0) (getD (c .depths) y 0) < 255 → d ≡ suc (max (getD (c .depths) x 0) (getD (c .depths) y 0))
+  pub depth : d ≡ min 255 (suc (max (getD (c .depths) x 0) (getD (c .depths) y 0)))
   pub and : max (getD (c .«and_depths») x 0) (getD (c .«and_depths») y 0) < 255
       → a ≡ max (getD (c .«and_depths») x 0) (getD (c .«and_depths») y 0) + nonlinear (kindOf (q .kind))
   pub value : w ≡ wordsOf (kindOf (q .kind)) (getD (c .values) x noWords) (getD (c .values) y noWords)
@@ -81,7 +82,7 @@ stored-makes b c j x y d a w h l r s =
     let n = b .n in
     record {
       depth =
-          s .depth (omega (arith, l .depth, r .depth, depth-le n Q j (q .left), depth-le n Q j (second q)))
+          deeper-is (getD (c .depths) x 0) (getD (c .depths) y 0) d (omega (arith, l .depth, depth-le n Q j (q .left))) (omega (arith, r .depth, depth-le n Q j (second q))) (s .depth)
           ∙ ap₂ (λ (u v : ℕ). suc (max u v)) (l .depth) (r .depth) ∙ sym (depth-two j q (λ (i : ℕ). getD (depths n Q j) i 0));
       and =
           s .and (omega (arith, l .and, r .and, and-depth-le n Q j (q .left), and-depth-le n Q j (second q)))

@@ -11,8 +11,8 @@ use lib.Dec.{ltb, lit<}
 use lib.ListN.{length, getD, drop, drop-of-length-le}
 use lib.Pow.{shl-exact}
 use lib.Seq.{drop-cons}
-use Rattle.bench.specs.Target.{rowFits, entryFits, allOf, targetFits}
-use Rattle.bench.specs.Parts.{targetOf, valueFits}
+use Rattle.bench.specs.Target.{rowFits, entryFits, allOf, targetFits, targetOf}
+use Rattle.bench.specs.Parts.{valueFits}
 
 -- `1 << n`
 pub shift-is : (n : ℕ) → n ≤ 32 → (1 * 2 ^ n) % 2 ^ 64 ≡ 2 ^ n

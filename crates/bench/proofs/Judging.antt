@@ -3,20 +3,20 @@ use mathlib.Core.Path.{_≡_, refl, ap, _∙_, sym}
 use mathlib.Core.Bool.{Bool, true, false, cond, not}
 use mathlib.Core.Logic.{⊎-elim}
 use mathlib.Core.List.{List, map}
-use Prim.Native.Nat.{ℕ, _≤_, _<_, _-_, _+_, _^_, max}
+use Prim.Native.Nat.{ℕ, _≤_, _<_, _-_, _+_, _^_}
 use native.Mathlib.Omega.{arith}
-use native.Mathlib.Numerals.{add-one}
 use borrow.Author.Tests.{lt-ltb, le-ltb}
 use lib.Dec.{eqb, ltb}
 use lib.Pow.{pow-mono}
-use lib.ListN.{length, getD, take, drop, replicate, length-map, length-replicate}
-use lib.Seq.{drop-cons, take-at}
+use lib.ListN.{length, getD, take, replicate, length-map, length-replicate}
+use lib.Seq.{take-at}
 use Rattle.circuit.specs.declared.Words.{Words}
 use Rattle.circuit.specs.declared.Tally.{Tally}
 use Rattle.circuit.specs.declared.Refusal.the-variants.{NothingOpen}
 use Rattle.circuit.specs.Gate.{noWords, valueIn, tallyOf}
 use Rattle.circuit.specs.Lines.{Gate, gateAt, depthStep, andStep, lines, upto, words, outputOn, depthOf, andDepthOf, greatest}
 use Rattle.circuit.proofs.LineLaws.{pad-read, place, lines-length}
+use Rattle.circuit.proofs.Over.{upto-at}
 use Rattle.circuit.proofs.WordLaws.{words-values}
 use Rattle.bench.specs.declared.Bench.{Bench}
 use Rattle.bench.specs.declared.Verdict.{Verdict}
@@ -32,15 +32,7 @@ use Rattle.bench.proofs.Standing.{circuit-fits}
 use Rattle.bench.proofs.Stood.{openOn, when-open, when-shut}
 use Rattle.bench.proofs.Smallest.{least-same, least-here, least-past, least-from}
 use Rattle.bench.proofs.Differing.{found-is}
-use Rattle.bench.proofs.Wanting.{upto-at, wanted-value}
-
--- ---- the greatest of some entries, one after the other
-
-pub greatest-next : (l : List ℕ) (i top : ℕ) → i < length l → max top (greatest (drop i l)) ≡ max (max top (getD l i 0)) (greatest (drop (i + 1) l))
-greatest-next l i top h =
-    let e : greatest (drop i l) ≡ max (getD l i 0) (greatest (drop (i + 1) l)) =
-    ap greatest (drop-cons l i 0 h) ∙ ap (λ (k : ℕ). max (getD l i 0) (greatest (drop k l))) (sym (add-one i)) in
-    omega (arith, e)
+use Rattle.bench.proofs.Wanting.{wanted-value}
 
 -- ---- the first verdict that applies to a bench
 

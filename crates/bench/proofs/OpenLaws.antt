@@ -23,11 +23,11 @@ use Rattle.circuit.proofs.Accept.{Shaped, both}
 use Rattle.circuit.proofs.Round.{answer-stored, stored-listing}
 use Rattle.bench.specs.declared.Bench.{Bench}
 use Rattle.bench.specs.declared.Opened.{Opened}
-use Rattle.bench.specs.Target.{Target, matrix, table, isMatrix, bytesOf, targetFits}
-use Rattle.bench.specs.State.{Limits, State}
+use Rattle.bench.specs.Target.{Target, matrix, table, isMatrix, bytesOf, targetFits, targetOf}
+use Rattle.bench.specs.State.{Limits, State, limits}
 use Rattle.bench.specs.Held.{padded, wantedWords, fullBench, benchOf}
 use Rattle.bench.specs.Calls.{after, openAnswer, openState, OpenPromise}
-use Rattle.bench.specs.Parts.{targetOf, limits, gateOf, examinedAs, examined, placedOf}
+use Rattle.bench.specs.Parts.{gateOf, examinedAs, examined, placedOf}
 use Rattle.bench.proofs.Standing.{circuit-fits, gate-of, full-examined, examined-same}
 use Rattle.bench.proofs.StoreLaws.{circuit-of-full}
 use Rattle.bench.proofs.EntryLaws.{wanted-padded}

@@ -13,6 +13,7 @@ use Rattle.circuit.specs.declared.Answer.the-variants.{Done}
 use Rattle.circuit.specs.Lines.{Listing, gateAt, reads, lines, anyOf, reachStep, reached}
 use Rattle.circuit.proofs.Keep.{Below}
 use Rattle.circuit.proofs.LineLaws.{made, lines-length, lines-one, lines-more, lines-at, pad-read, place}
+use Rattle.circuit.proofs.Operands.{reads-below}
 use Rattle.bench.specs.declared.Edit.{Edit}
 use Rattle.bench.specs.Target.{isMatrix}
 use Rattle.bench.specs.State.{State, Sound, present}
@@ -20,7 +21,6 @@ use Rattle.bench.specs.Held.{padded}
 use Rattle.bench.specs.Parts.{AllBelow}
 use Rattle.bench.specs.Calls.{placesFrom, readersOf, reworking, editBy, gateEdit, gateEditAnswer}
 use Rattle.bench.proofs.Standing.{circuit-fits, all-below}
-use Rattle.bench.proofs.Operands.{reads-below}
 use Rattle.bench.proofs.Places.{listed-marked, marked-listed, size-places, places-ascend}
 use Rattle.bench.proofs.Replacing.{edit-fits}
 

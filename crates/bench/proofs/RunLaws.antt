@@ -3,7 +3,7 @@
 use mathlib.Core.Path.{_≡_, refl, ap, _∙_, sym, subst}
 use mathlib.Core.Bool.{false}
 use mathlib.Core.List.{List, [], _∷_, _++_}
-use Prim.Native.Nat.{ℕ, _<_, _-_, _+_}
+use Prim.Native.Nat.{ℕ, _<_, _-_}
 use lib.ListN.{length, getD, take, replicate, length-set, length-replicate}
 use lib.Seq.{getD-set-other, set-getD}
 use borrow.Author.Tests.{lt-ltb}

@@ -2,25 +2,23 @@
 use mathlib.Core.Path.{_≡_, refl, ap, ap₂, _∙_, sym, subst}
 use mathlib.Core.Bool.{Bool, true, false, cond, not, _&&_, _||_, true≢false}
 use mathlib.Core.List.{List, [], _∷_, _++_, map}
-use Prim.Native.Nat.{ℕ, zero, suc, _≤_, _<_, _-_, _+_, _^_}
+use Prim.Native.Nat.{ℕ, zero, suc, _≤_, _<_, _-_, _+_}
 use native.Mathlib.Omega.{arith}
 use lib.Dec.{leb, ltb, eqb}
-use lib.ListN.{length, getD, set, take, replicate, length-replicate, length-map, length-take, List·getD-map}
-use borrow.Author.Tests.{leb-true, ltb-true, eqb-true, le-leb, eq-eqb}
-use Rattle.circuit.specs.declared.Words.{Words}
-use Rattle.circuit.specs.declared.Answer.{Answer}
-use Rattle.circuit.specs.declared.Answer.the-variants.{Done, Refused}
+use lib.ListN.{length, getD, take, replicate, length-replicate, length-take, List·getD-map}
+use borrow.Author.Tests.{leb-true, ltb-true, eqb-true}
+use Rattle.circuit.specs.declared.Answer.the-variants.{Done}
 use Rattle.circuit.specs.declared.Refusal.the-variants.{Shape, UnknownKind, Operand, NotXor, NoLine}
 use Rattle.circuit.specs.Gate.{noWords}
-use Rattle.circuit.specs.Lines.{Gate, Listing, gateAt, noGate, lines, depthStep, andStep, wordsStep, inputWords, depths, andDepths, words}
+use Rattle.circuit.specs.Lines.{Gate, Listing, gateAt, noGate, lines, depthStep, andStep, wordsStep, inputWords}
 use Rattle.circuit.specs.Reading.{unless, andThen, shaped, secondFits, gateAnswer, outAnswer, gatesAnswer, outsAnswer, listingAnswer}
 use Rattle.circuit.proofs.Accept.{Shaped, shape-is, past, both, then-done}
 use Rattle.circuit.proofs.LineLaws.{lines-length, lines-agree, pad-read}
 use Rattle.bench.specs.declared.Bench.{Bench}
 use Rattle.bench.specs.Target.{isMatrix}
-use Rattle.bench.specs.State.{State, Sound, Present, present}
-use Rattle.bench.specs.Held.{padded, fullBench, benchOf, Stands}
-use Rattle.bench.specs.Parts.{gateOf, entries, holding, examinedAs, examined, AllBelow, standing}
+use Rattle.bench.specs.State.{State, Sound}
+use Rattle.bench.specs.Held.{padded, fullBench}
+use Rattle.bench.specs.Parts.{gateOf, entries, holding, examinedAs, AllBelow, standing}
 
 -- ---- one gate that is accepted
 

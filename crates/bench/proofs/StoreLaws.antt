@@ -15,9 +15,8 @@ use Rattle.circuit.specs.Writing.{writeAnswer, roomAfter, Wrote}
 use Rattle.circuit.proofs.Back.{listed-held}
 use Rattle.bench.specs.declared.Bench.{Bench}
 use Rattle.bench.specs.State.{State, Sound, present}
-use Rattle.bench.specs.Held.{fullBench}
+use Rattle.bench.specs.Held.{fullBench, circuitOf}
 use Rattle.bench.specs.Calls.{storeAnswer, StorePromise}
-use Rattle.bench.specs.Parts.{circuitOf}
 use Rattle.bench.proofs.Standing.{full-standing}
 use Rattle.bench.proofs.Stood.{openOn, when-open, when-shut}
 

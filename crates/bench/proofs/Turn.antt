@@ -8,12 +8,12 @@ use lib.Dec.{eqb}
 use lib.ListN.{length, getD, set, take, drop, replicate, length-replicate, replicate-append-replicate}
 use Rattle.circuit.specs.declared.Words.{Words}
 use Rattle.circuit.specs.Gate.{noWords}
-use Rattle.circuit.specs.Lines.{Gate, lines, depthStep, andStep, wordsStep, reachStep, inputWords, depths, andDepths, words, reached}
+use Rattle.circuit.specs.Lines.{Gate, depthStep, andStep, wordsStep, reachStep, inputWords, depths, andDepths, words, reached}
 use Rattle.circuit.proofs.LineLaws.{made, unreached}
 use Rattle.circuit.proofs.Keep.{kept-read, kept-hit, kept-start, kept-miss, kept-done}
+use Rattle.circuit.proofs.Operands.{second, reach-two, reads-below}
 use Rattle.bench.specs.declared.Bench.{Bench}
 use Rattle.bench.specs.Parts.{gateOf, holding, entries, examinedAs, AllBelow, Agree, Reexamined}
-use Rattle.bench.proofs.Operands.{second, reach-two, reads-below}
 use Rattle.bench.proofs.Examining.{entries-read, entries-skip, entries-next, entries-length, inputs-length, Stored, Shows, stored-makes, put}
 
 -- the circuit before the edit: it differs at gate k alone, and its lines were held

@@ -18,11 +18,10 @@ use Rattle.bench.specs.declared.Edited.{Edited}
 use Rattle.bench.specs.declared.Opened.{Opened}
 use Rattle.bench.specs.declared.Edit.{Edit}
 use Rattle.bench.specs.declared.Reported.{Reported}
-use Rattle.bench.specs.Target.{Target, matrix, table, isMatrix, bytesOf, targetFits}
-use Rattle.bench.specs.State.{Limits, State, Present, nothing, present, Sound}
-use Rattle.bench.specs.Held.{padded, emptyBench, fullBench, Stands}
+use Rattle.bench.specs.Target.{Target, matrix, table, isMatrix, bytesOf, targetFits, targetOf}
+use Rattle.bench.specs.State.{Limits, State, Present, nothing, present, Sound, limits}
+use Rattle.bench.specs.Held.{padded, emptyBench, fullBench, Stands, circuitOf}
 use Rattle.bench.specs.Calls.{OpenPromise, GatePromise, OutputPromise, EntryPromise, LimitsPromise, ReportPromise, StorePromise}
-use Rattle.bench.specs.Parts.{targetOf, limits, circuitOf}
 use Rattle.bench.proofs.StoreLaws.{circuit-of-full}
 
 -- ---- what any bench has

@@ -1,37 +1,24 @@
 -- What the target wants of an output on an input is that input's bit in the words that it wants. Assumes nothing.
 use mathlib.Core.Path.{_≡_, refl, ap, ap₂, _∙_, sym}
 use mathlib.Core.Bool.{Bool, true, false, cond}
-use mathlib.Core.Logic.{⊎-elim}
 use mathlib.Core.List.{List, [], _∷_}
 use Prim.Native.Nat.{ℕ, zero, suc, _≤_, _<_, _+_, _*_, _/_, _%_, min}
 use native.Mathlib.Omega.{arith}
-use native.Mathlib.Nat.{zero-add, mod-lt, zero-lt-suc, eq-or-lt-of-le}
+use native.Mathlib.Nat.{zero-add, mod-lt, zero-lt-suc}
 use lib.Bits.{bitAnd, differ}
 use lib.Dec.{eqb}
-use lib.ListN.{getD, List·getD-map, List·getD-append}
-use lib.Seq.{getD-at}
+use lib.ListN.{getD, List·getD-map}
 use borrow.Author.Tests.{eqb-true, eqb-false}
 use Rattle.circuit.specs.declared.Words.{Words}
 use Rattle.circuit.specs.Gate.{Kind, bit, wordsOf, noWords, valueIn}
-use Rattle.circuit.specs.Lines.{upto, inputWords}
+use Rattle.circuit.specs.Lines.{inputWords}
 use Rattle.circuit.proofs.GateLaws.{bit-lt, bit-and}
-use Rattle.circuit.proofs.Over.{upto-length}
+use Rattle.circuit.proofs.Over.{upto-at}
 use Rattle.circuit.proofs.WordLaws.{value-words, inputs-right}
 use Rattle.bench.proofs.Differing.{none-set}
 use Rattle.bench.specs.Target.{Target, matrix, table, parity, wants}
 use Rattle.bench.specs.Held.{packed, rowWords, columnWords, wantedWords}
 use Rattle.bench.proofs.Packing.{bit-packed}
-
--- one of f 0, f 1, ..
-pub upto-at : {A : Type 0} (f : ℕ → A) (d : A) (j i : ℕ) → i < j → getD (upto f j) i d ≡ f i
-unfolding upto
-upto-at f d zero i h = absurd (omega arith)
-upto-at f d (suc j) i h =
-    let l = upto-length f j in
-    ⊎-elim
-    (λ e. getD-at (upto f j) (f j) [] d i (l ∙ sym e) ∙ ap f (sym e))
-    (λ k. List·getD-append (upto f j) (f j ∷ []) d i (omega arith) ∙ upto-at f d j i k)
-    (eq-or-lt-of-le {n = i} {m = j} (omega arith))
 
 -- ---- a row
 

@@ -1,20 +1,19 @@
 -- The calls as functions on what is present: what each answers, what is present after it, and what the code promises of it.
 use mathlib.Core.Path.{_≡_}
-use mathlib.Core.Bool.{Bool, true, false, cond}
-use mathlib.Core.List.{List, [], _∷_, _++_}
-use Prim.Native.Nat.{ℕ, zero, suc, _+_, _-_, _^_}
-use lib.Dec.{leb, ltb}
-use lib.ListN.{length, getD, set, drop, replicate}
-use Rattle.circuit.specs.declared.Refusal.{Refusal}
-use Rattle.circuit.specs.declared.Refusal.the-variants.{Target as BadTarget, NoRoom, NotThere, NothingOpen}
+use mathlib.Core.Bool.{Bool, cond}
+use mathlib.Core.List.{List, [], _∷_}
+use Prim.Native.Nat.{ℕ, suc, _+_, _^_}
+use lib.Dec.{ltb}
+use lib.ListN.{length, set, replicate}
+use Rattle.circuit.specs.declared.Refusal.the-variants.{Target as BadTarget, NotThere, NothingOpen}
 use Rattle.circuit.specs.declared.Answer.{Answer}
 use Rattle.circuit.specs.declared.Answer.the-variants.{Done, Refused}
 use Rattle.circuit.specs.declared.Writing.{Writing}
-use Rattle.circuit.specs.declared.Writing.the-variants.{Written, NotWritten}
+use Rattle.circuit.specs.declared.Writing.the-variants.{NotWritten}
 use Rattle.circuit.specs.Lines.{Gate, Listing, gateAt, reached}
 use Rattle.circuit.specs.Stored.{stored, listingIn}
 use Rattle.circuit.specs.Reading.{unless, andThen, gateAnswer, outAnswer, readAnswer}
-use Rattle.circuit.specs.Writing.{roomAfter}
+use Rattle.circuit.specs.Writing.{intoRoom, roomAfter}
 use Rattle.bench.specs.declared.Bench.{Bench}
 use Rattle.bench.specs.declared.Edit.{Edit}
 use Rattle.bench.specs.declared.Reported.{Reported}
@@ -61,6 +60,7 @@ abbrev pub gateEdited : State → ℕ → ℕ → ℕ → ℕ → State
 gateEdited s k kind a b =
     record { circuit = withGate (s .circuit) k (record { kind = kind; left = a; right = b }); target = s .target; limits = s .limits }
 
+-- what is present after replacing a gate
 abbrev pub afterGate : Present → ℕ → ℕ → ℕ → ℕ → Present
 afterGate nothing k kind a b = nothing
 afterGate (present s) k kind a b = after (gateEditAnswer (present s) k kind a b) (gateEdited s k kind a b) (present s)
@@ -80,6 +80,7 @@ outputEdited s j line =
       limits = s .limits;
     }
 
+-- what is present after pointing an output
 abbrev pub afterOutput : Present → ℕ → ℕ → Present
 afterOutput nothing j line = nothing
 afterOutput (present s) j line = after (outputEditAnswer (present s) j line) (outputEdited s j line) (present s)
@@ -89,6 +90,7 @@ abbrev pub entryAnswer : Listing → Target → ℕ → ℕ → Answer
 entryAnswer c (matrix rows) i value = unless (ltb i (length (c .outs))) NotThere (unless (rowFits (c .inputs) value) BadTarget Done)
 entryAnswer c (table entries) i value = unless (ltb i (2 ^ c .inputs)) NotThere (unless (entryFits (length (c .outs)) value) BadTarget Done)
 
+-- changing entry i: nothing open (13), then as above
 unfoldable pub entryEditAnswer : Present → ℕ → ℕ → Answer
 entryEditAnswer nothing i value = Refused NothingOpen
 entryEditAnswer (present s) i value = entryAnswer (s .circuit) (s .target) i value
@@ -98,9 +100,11 @@ abbrev pub withEntry : Target → ℕ → ℕ → Target
 withEntry (matrix rows) i value = matrix (set rows i value)
 withEntry (table entries) i value = table (set entries i value)
 
+-- the state with entry i changed
 abbrev pub entryEdited : State → ℕ → ℕ → State
 entryEdited s i value = record { circuit = s .circuit; target = withEntry (s .target) i value; limits = s .limits }
 
+-- what is present after changing an entry
 abbrev pub afterEntry : Present → ℕ → ℕ → Present
 afterEntry nothing i value = nothing
 afterEntry (present s) i value = after (entryEditAnswer (present s) i value) (entryEdited s i value) (present s)
@@ -110,6 +114,7 @@ abbrev pub limitsAnswer : Present → Answer
 limitsAnswer nothing = Refused NothingOpen
 limitsAnswer (present s) = Done
 
+-- what is present after setting the limits
 abbrev pub afterLimits : Present → Limits → Present
 afterLimits nothing l = nothing
 afterLimits (present s) l = present (record { circuit = s .circuit; target = s .target; limits = l })
@@ -138,6 +143,7 @@ reworking marks = record { answer = Done; lines = padded (placesFrom 0 marks) 25
 abbrev pub noRework : Answer → Edit
 noRework a = record { answer = a; lines = replicate 256 0; count = 0 }
 
+-- an edit's answer: the set where it is accepted, none where it is refused
 abbrev pub editBy : Answer → List Bool → Edit
 editBy Done marks = reworking marks
 editBy (Refused w) marks = noRework (Refused w)
@@ -157,9 +163,7 @@ reported (present s) = Given (reportOf s)
 -- what storing answers, for a room so long: nothing open (13), room too short (11)
 unfoldable pub storeAnswer : Present → ℕ → Writing
 storeAnswer nothing room = NotWritten NothingOpen
-storeAnswer (present s) room =
-    let size = length (stored (s .circuit)) in
-    cond (leb size room) (Written size) (NotWritten NoRoom)
+storeAnswer (present s) room = intoRoom Done (length (stored (s .circuit))) room
 
 -- the bytes that are stored
 abbrev pub storedOf : Present → List ℕ

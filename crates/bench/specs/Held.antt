@@ -1,13 +1,14 @@
 -- What a bench holds: the one bench that stands for a state, all that it holds as a first-time examination gives it.
 use mathlib.Core.Path.{_≡_}
-use mathlib.Core.Bool.{Bool, true, false, cond}
-use mathlib.Core.List.{List, [], _∷_, _++_, map}
+use mathlib.Core.Bool.{true, false, cond}
+use mathlib.Core.List.{List, _++_, map}
 use Prim.Native.Nat.{ℕ, zero, suc, _+_, _-_, _*_, _^_}
 use lib.Dec.{eqb}
 use lib.ListN.{length, getD, replicate}
 use Rattle.circuit.specs.declared.Words.{Words}
+use Rattle.circuit.specs.declared.Circuit.{Circuit}
 use Rattle.circuit.specs.Gate.{Kind, bit, wordsOf, noWords}
-use Rattle.circuit.specs.Lines.{Gate, Listing, gateAt, upto, inputWords, depths, andDepths, words}
+use Rattle.circuit.specs.Lines.{Gate, gateAt, upto, inputWords, depths, andDepths, words}
 use Rattle.bench.specs.declared.Bench.{Bench}
 use Rattle.bench.specs.Target.{Target, matrix, table, isMatrix, bytesOf}
 use Rattle.bench.specs.State.{State, Present, nothing, present, SoundPresent}
@@ -92,9 +93,14 @@ fullBench s =
       values = padded (words (c .inputs) (gateAt c) g) 256 noWords;
     }
 
+-- the one bench of what is present
 abbrev pub benchOf : Present → Bench
 benchOf nothing = emptyBench
 benchOf (present s) = fullBench s
+
+-- the circuit of a bench
+abbrev pub circuitOf : Bench → Circuit
+circuitOf b = record { n = b .n; m = b .m; g = b .g; kinds = b .kinds; left = b .left; right = b .right; outputs = b .outputs }
 
 -- a right bench: it stands for what is present, which keeps every rule, and holds exactly what a first-time examination gives
 pub record Stands (b : Bench) (p : Present) : Type 0 where

@@ -1,40 +1,31 @@
 -- What the functions inside the bench promise to one another.
 use mathlib.Core.Path.{_≡_}
 use mathlib.Core.Bool.{Bool, true, false, cond, not, _&&_}
-use mathlib.Core.List.{List, [], _∷_, _++_}
-use Prim.Native.Nat.{ℕ, zero, suc, _+_, _-_, _^_, _<_, _≤_}
+use mathlib.Core.List.{List, _++_}
+use Prim.Native.Nat.{ℕ, zero, suc, _+_, _-_, _^_, _<_}
 use lib.Dec.{ltb, eqb}
-use lib.ListN.{length, getD, take, replicate}
+use lib.ListN.{getD, take, replicate}
 use Rattle.circuit.specs.declared.Answer.{Answer}
 use Rattle.circuit.specs.declared.Answer.the-variants.{Done}
 use Rattle.circuit.specs.declared.Refusal.the-variants.{NotThere, NothingOpen, Target as BadTarget}
 use Rattle.circuit.specs.declared.Words.{Words}
 use Rattle.circuit.specs.declared.Circuit.{Circuit}
 use Rattle.circuit.specs.Gate.{Kind, wordsOf, noWords, valueIn}
-use Rattle.circuit.specs.Lines.{Gate, upto, reads, lines, depthStep, andStep, wordsStep, inputWords, depths, andDepths, words, reached}
+use Rattle.circuit.specs.Lines.{Gate, upto, lines, depthStep, andStep, wordsStep, inputWords, depths, reached}
 use Rattle.circuit.specs.Reading.{unless, shaped, gateAnswer, outAnswer}
 use Rattle.bench.specs.declared.Bench.{Bench}
 use Rattle.bench.specs.declared.Edited.{Edited}
 use Rattle.bench.specs.declared.Verdict.{Verdict}
 use Rattle.bench.specs.declared.Verdict.the-variants.{Wrong, OverGates, OverDepth, OverAndDepth, Pass}
-use Rattle.bench.specs.Target.{Target, matrix, table, rowFits, entryFits}
-use Rattle.bench.specs.State.{Limits, least}
+use Rattle.bench.specs.Target.{rowFits, entryFits, targetOf}
+use Rattle.bench.specs.State.{least}
 use Rattle.bench.specs.Held.{padded, wantedWords}
 use Rattle.bench.specs.Calls.{noRework}
-
--- a target given by its kind and its bytes
-abbrev pub targetOf : Bool → List ℕ → Target
-targetOf true bytes = matrix bytes
-targetOf false bytes = table bytes
 
 -- a row or an entry of a target of that kind keeps its rule
 abbrev pub valueFits : Bool → ℕ → ℕ → ℕ → Bool
 valueFits true n m value = rowFits n value
 valueFits false n m value = entryFits m value
-
--- three limits
-abbrev pub limits : ℕ → ℕ → ℕ → Limits
-limits g d a = record { gates = g; depth = d; andDepth = a }
 
 -- ---- lines
 
@@ -100,12 +91,15 @@ pub record Reexamined (b : Bench) (k : ℕ) (r : Bench) (marks : List Bool) : Ty
 abbrev pub standing : Bool → ℕ → ℕ → ℕ → Bool
 standing opened n m g = opened && shaped n m g
 
+-- what replacing a gate is refused for, from the numbers on the bench
 unfoldable pub gateLook : Bool → Bool → ℕ → ℕ → ℕ → ℕ → ℕ → ℕ → ℕ → Answer
 gateLook opened only n m g k kind a b = unless (standing opened n m g) NothingOpen (unless (ltb k g) NotThere (gateAnswer only (n + k) kind a b))
 
+-- what pointing an output is refused for
 unfoldable pub outputLook : Bool → ℕ → ℕ → ℕ → ℕ → ℕ → Answer
 outputLook opened n m g j line = unless (standing opened n m g) NothingOpen (unless (ltb j m) NotThere (outAnswer (n + g) line))
 
+-- what changing an entry is refused for
 unfoldable pub entryLook : Bool → Bool → ℕ → ℕ → ℕ → ℕ → ℕ → Answer
 entryLook opened only n m g i value =
     unless (standing opened n m g) NothingOpen
@@ -136,6 +130,7 @@ judgedAt b depth ands x =
     (cond (ltb (b .«max_and_depth») ands) OverAndDepth
     Pass)))
 
+-- the first verdict that applies to a bench
 unfoldable pub judged : Bench → ℕ → ℕ → Verdict
 judged b depth ands = judgedAt b depth ands (least (λ (x : ℕ). eqb (valueIn (differences (b .values) (b .outputs) (b .wanted) (b .m)) x) 1) 256 0)
 
@@ -163,7 +158,3 @@ placedOf c only bytes gates depth ands =
       «and_depths» = replicate 256 0;
       values = replicate 256 noWords;
     })
-
--- the circuit of a bench
-abbrev pub circuitOf : Bench → Circuit
-circuitOf b = record { n = b .n; m = b .m; g = b .g; kinds = b .kinds; left = b .left; right = b .right; outputs = b .outputs }

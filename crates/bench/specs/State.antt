@@ -1,14 +1,12 @@
 -- A state of the bench, and what a first-time examination of it reports.
 use mathlib.Core.Path.{_≡_}
-use mathlib.Core.Bool.{Bool, true, false, cond, not}
-use mathlib.Core.List.{List}
+use mathlib.Core.Bool.{Bool, true, cond, not}
 use Prim.Native.Nat.{ℕ, zero, suc, _^_, _<_}
 use lib.Dec.{ltb, eqb}
 use lib.ListN.{length}
 use Rattle.circuit.specs.declared.Answer.the-variants.{Done}
 use Rattle.circuit.specs.Lines.{Listing, outputOn, depthOf, andDepthOf, countsOf}
 use Rattle.circuit.specs.Reading.{listingAnswer}
-use Rattle.bench.specs.declared.Place.{Place}
 use Rattle.bench.specs.declared.Verdict.{Verdict}
 use Rattle.bench.specs.declared.Verdict.the-variants.{Wrong, OverGates, OverDepth, OverAndDepth, Pass}
 use Rattle.bench.specs.declared.Report.{Report}
@@ -19,6 +17,10 @@ pub record Limits : Type 0 where
   pub gates : ℕ
   pub depth : ℕ
   pub andDepth : ℕ
+
+-- three limits
+abbrev pub limits : ℕ → ℕ → ℕ → Limits
+limits g d a = record { gates = g; depth = d; andDepth = a }
 
 -- a circuit, a target and three limits
 pub record State : Type 0 where
@@ -57,6 +59,7 @@ verdictAt s x =
     (cond (ltb (s .limits .andDepth) (andDepthOf (s .circuit))) OverAndDepth
     Pass)))
 
+-- the state's verdict
 unfoldable pub verdictOf : State → Verdict
 verdictOf s = verdictAt s (firstInput s)
 
@@ -79,6 +82,7 @@ pub record Sound (s : State) : Type 0 where
   pub depth : s .limits .depth < 256
   pub andDepth : s .limits .andDepth < 256
 
+-- what is present keeps every rule
 abbrev pub SoundPresent : Present → Type 0
 SoundPresent nothing = Unit {0}
 SoundPresent (present s) = Sound s

@@ -12,6 +12,11 @@ pub data Target : Type 0 where
   matrix : List ℕ → Target
   table : List ℕ → Target
 
+-- a target given by its kind and its bytes
+abbrev pub targetOf : Bool → List ℕ → Target
+targetOf true bytes = matrix bytes
+targetOf false bytes = table bytes
+
 -- under a matrix only XOR gates are allowed
 abbrev pub isMatrix : Target → Bool
 isMatrix (matrix rows) = true

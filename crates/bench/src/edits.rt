@@ -4,7 +4,8 @@ ghost use mathlib.Core.Bool.{cond};
 ghost use Prim.Native.Nat.{_^_, _<_, _≤_};
 ghost use Rattle.circuit.specs.declared.Answer.the-variants.{Refused};
 ghost use Rattle.bench.specs.Calls.{reworking, GatePromise, OutputPromise, EntryPromise, LimitsPromise};
-ghost use Rattle.bench.specs.Parts.{standing, gateLook, outputLook, entryLook, unreworked, limits};
+ghost use Rattle.bench.specs.State.{limits};
+ghost use Rattle.bench.specs.Parts.{standing, gateLook, outputLook, entryLook, unreworked};
 use crate::Bench;
 use crate::Edit;
 use crate::Edited;
@@ -13,6 +14,7 @@ use crate::targets::value_fits;
 use crate::targets::wanted_words;
 use circuit::Answer;
 use circuit::Refusal;
+use circuit::low_byte;
 use circuit::reader::check_gate;
 use circuit::reader::check_output;
 use circuit::reader::is_shape;
@@ -22,14 +24,6 @@ pub(crate) fn is_standing(opened: bool, n: usize, m: usize, g: usize) -> bool
     ensures { λ r. ⌜ r ≡ standing opened n m g ⌝ }
 {
     if opened { is_shape(n, m, g) } else { false }
-}
-
-// A number that is known to fit a byte.
-fn byte(x: usize) -> u8
-    requires { ⌜ x < 256 ⌝ }
-    ensures { λ r. ⌜ r ≡ x ⌝ }
-{
-    x as u8
 }
 
 // The bench with an answer that reworks no line.
@@ -61,7 +55,7 @@ fn list_lines(marks: [bool; 256]) -> Edit
     let mut i: usize = 0;
     while i < 256 {
         if marks[i] {
-            lines[count] = byte(i);
+            lines[count] = low_byte(i);
             count += 1;
         }
         i += 1;
@@ -118,9 +112,9 @@ pub fn replace_gate(bench: Bench, k: usize, kind: usize, a: usize, b: usize) -> 
         Answer::Refused(why) => refused(bench, why),
         Answer::Done => {
             let mut c = bench;
-            c.kinds[k] = byte(kind);
-            c.left[k] = byte(a);
-            c.right[k] = byte(b);
+            c.kinds[k] = low_byte(kind);
+            c.left[k] = low_byte(a);
+            c.right[k] = low_byte(b);
             let done = rework(c, k);
             let marks = done.marks;
             let edit = list_lines(marks);
@@ -154,7 +148,7 @@ pub fn point_output(bench: Bench, j: usize, line: usize) -> Edited
         Answer::Refused(why) => refused(bench, why),
         Answer::Done => {
             let mut c = bench;
-            c.outputs[j] = byte(line);
+            c.outputs[j] = low_byte(line);
             without_rework(c, Answer::Done)
         }
     }
@@ -212,7 +206,7 @@ pub fn change_entry(bench: Bench, i: usize, value: usize) -> Edited
         Answer::Refused(why) => refused(bench, why),
         Answer::Done => {
             let mut c = bench;
-            c.target[i] = (value % 256) as u8;
+            c.target[i] = low_byte(value);
             let wanted = wanted_words(c.is_matrix, &c.target, c.m);
             c.wanted = wanted;
             without_rework(c, Answer::Done)

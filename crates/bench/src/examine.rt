@@ -1,14 +1,16 @@
 // The examination of lines: all of them afresh, or only those that read a replaced gate.
 ghost use mathlib.Core.Path.{_≡_};
 ghost use mathlib.Core.Bool.{_||_};
-ghost use Prim.Native.Nat.{suc, max, _+_, _<_, _≤_};
+ghost use Prim.Native.Nat.{max, _+_, _<_, _≤_};
 ghost use lib.ListN.{getD, take};
 ghost use Rattle.circuit.specs.Gate.{kindOf, nonlinear, noWords};
 ghost use Rattle.circuit.specs.Lines.{inputWords};
 ghost use Rattle.bench.specs.Held.{padded};
 ghost use Rattle.bench.specs.Parts.{examined, Reexamined};
 use crate::Bench;
+use circuit::NO_WORDS;
 use circuit::Words;
+use circuit::depth::deeper;
 use circuit::gate;
 use circuit::wide;
 
@@ -72,14 +74,6 @@ pub(crate) fn input_words(i: usize) -> Words
     INPUTS[i]
 }
 
-// One more than the greater of two depths. It stays within a byte, on any bench.
-fn deeper(a: u8, b: u8) -> u8
-    ensures { λ r. ⌜ (max a b < 255 → r ≡ suc (max a b)) ⌝ }
-{
-    let top = if a < b { b } else { a };
-    if top < 255 { top + 1 } else { top }
-}
-
 // The greater of two AND depths, and one more for a nonlinear gate.
 fn and_deeper(kind: u8, a: u8, b: u8) -> u8
     ensures { λ r. ⌜ (max a b < 255 → r ≡ max a b + nonlinear (kindOf kind)) ⌝ }
@@ -97,12 +91,7 @@ fn inputs_only(n: usize) -> [Words; 256]
     requires { ⌜ n ≤ 8 ⌝ }
     ensures { λ r. ⌜ r ≡ padded (take n inputWords) 256 noWords ⌝ }
 {
-    let mut values = [Words {
-        w0: 0,
-        w1: 0,
-        w2: 0,
-        w3: 0,
-    }; 256];
+    let mut values = [NO_WORDS; 256];
     let mut i: usize = 0;
     while i < n {
         values[i] = input_words(i);

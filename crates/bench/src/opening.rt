@@ -2,11 +2,12 @@
 ghost use mathlib.Core.Path.{_≡_};
 ghost use Prim.Native.Nat.{_≤_};
 ghost use lib.ListN.{length};
-ghost use Rattle.bench.specs.Target.{matrix, table};
+ghost use Rattle.bench.specs.Target.{matrix, table, targetOf};
 ghost use Rattle.circuit.specs.declared.Answer.the-variants.{Refused};
 ghost use Rattle.bench.specs.Held.{emptyBench, padded};
 ghost use Rattle.bench.specs.Calls.{OpenPromise};
-ghost use Rattle.bench.specs.Parts.{targetOf, limits, placedOf};
+ghost use Rattle.bench.specs.State.{limits};
+ghost use Rattle.bench.specs.Parts.{placedOf};
 use crate::Bench;
 use crate::Opened;
 use crate::examine::examine;
@@ -14,8 +15,8 @@ use crate::targets::target_fits;
 use crate::targets::wanted_words;
 use circuit::Answer;
 use circuit::Circuit;
+use circuit::NO_WORDS;
 use circuit::Refusal;
-use circuit::Words;
 use circuit::reader::read;
 
 // A bench with nothing open.
@@ -27,20 +28,10 @@ pub fn empty() -> Bench
     let right = [0u8; 248];
     let outputs = [0u8; 32];
     let target = [0u8; 256];
-    let wanted = [Words {
-        w0: 0,
-        w1: 0,
-        w2: 0,
-        w3: 0,
-    }; 32];
+    let wanted = [NO_WORDS; 32];
     let depths = [0u8; 256];
     let and_depths = [0u8; 256];
-    let values = [Words {
-        w0: 0,
-        w1: 0,
-        w2: 0,
-        w3: 0,
-    }; 256];
+    let values = [NO_WORDS; 256];
     Bench {
         is_open: false,
         is_matrix: false,
@@ -92,12 +83,7 @@ fn placed(c: Circuit, only: bool, bytes: &[u8], gates: u8, depth: u8, ands: u8) 
     let wanted = wanted_words(only, &target, m);
     let depths = [0u8; 256];
     let and_depths = [0u8; 256];
-    let values = [Words {
-        w0: 0,
-        w1: 0,
-        w2: 0,
-        w3: 0,
-    }; 256];
+    let values = [NO_WORDS; 256];
     examine(Bench {
         is_open: true,
         is_matrix: only,

@@ -1,11 +1,9 @@
 // The report: counts, depths and the verdict, from what is held. Words are compared, 64 inputs at a time; a single input
 // is looked at only where a word differs.
 ghost use mathlib.Core.Path.{_≡_};
-ghost use Prim.Native.Nat.{_+_, _^_, _<_, _≤_};
-ghost use lib.Dec.{eqb, ltb};
-ghost use lib.ListN.{getD, take};
+ghost use Prim.Native.Nat.{_+_, _<_, _≤_};
+ghost use lib.Dec.{eqb};
 ghost use Rattle.circuit.specs.Gate.{bit, valueIn};
-ghost use Rattle.circuit.specs.Lines.{greatest};
 ghost use Rattle.bench.specs.State.{least};
 ghost use Rattle.bench.specs.Calls.{ReportPromise};
 ghost use Rattle.bench.specs.Parts.{differences, differsIn, judged};
@@ -15,8 +13,10 @@ use crate::Report;
 use crate::Reported;
 use crate::Verdict;
 use crate::edits::is_standing;
+use circuit::NO_WORDS;
 use circuit::Refusal;
 use circuit::Words;
+use circuit::depth::greatest_of;
 use circuit::gate;
 use circuit::wide;
 
@@ -26,12 +26,7 @@ fn differing(b: Bench) -> Words
     ensures { λ r. ⌜ r ≡ differences (b .values) (b .outputs) (b .wanted) (b .m) ⌝ }
 {
     let m = b.m;
-    let mut found = Words {
-        w0: 0,
-        w1: 0,
-        w2: 0,
-        w3: 0,
-    };
+    let mut found = NO_WORDS;
     let mut j: usize = 0;
     while j < m {
         let line = wide(b.outputs[j]);
@@ -109,21 +104,6 @@ fn lowest_output(b: Bench, x: usize) -> usize
         j += 1;
     }
     m
-}
-
-// The greatest of the first entries.
-fn greatest_of(entries: &[u8]) -> u8
-    ensures { λ r. ⌜ r ≡ greatest (now (entries .entry)) ⌝ }
-{
-    let mut top: u8 = 0;
-    let mut i: usize = 0;
-    while i < entries.len() {
-        if top < entries[i] {
-            top = entries[i];
-        }
-        i += 1;
-    }
-    top
 }
 
 // The first verdict that applies.

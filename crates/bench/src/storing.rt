@@ -1,7 +1,7 @@
 // Storing what stands on the bench.
 ghost use mathlib.Core.Path.{_≡_};
 ghost use Rattle.bench.specs.Calls.{StorePromise};
-ghost use Rattle.bench.specs.Parts.{circuitOf};
+ghost use Rattle.bench.specs.Held.{circuitOf};
 use crate::Bench;
 use crate::edits::is_standing;
 use circuit::Circuit;

@@ -5,10 +5,11 @@ ghost use Prim.Native.Nat.{_+_, _<_, _≤_};
 ghost use lib.ListN.{getD};
 ghost use Rattle.circuit.specs.Gate.{bit, noWords};
 ghost use Rattle.circuit.specs.Lines.{upto};
-ghost use Rattle.bench.specs.Target.{rowFits, entryFits, allOf, targetFits};
+ghost use Rattle.bench.specs.Target.{rowFits, entryFits, allOf, targetFits, targetOf};
 ghost use Rattle.bench.specs.Held.{padded, packed, rowWords, columnWords, wantedWords};
-ghost use Rattle.bench.specs.Parts.{targetOf, valueFits};
+ghost use Rattle.bench.specs.Parts.{valueFits};
 use crate::examine::input_words;
+use circuit::NO_WORDS;
 use circuit::Words;
 use circuit::gate;
 use circuit::wide;
@@ -83,12 +84,7 @@ pub(crate) fn target_fits(only: bool, n: usize, m: usize, bytes: &[u8]) -> bool
 fn row_words(row: u8) -> Words
     ensures { λ r. ⌜ r ≡ rowWords 8 row ⌝ }
 {
-    let mut w = Words {
-        w0: 0,
-        w1: 0,
-        w2: 0,
-        w3: 0,
-    };
+    let mut w = NO_WORDS;
     let mut i: usize = 0;
     while i < 8 {
         if (row >> i) % 2 == 1 {
@@ -143,12 +139,7 @@ pub(crate) fn wanted_words(only: bool, target: &[u8; 256], m: usize) -> [Words; 
     requires { ⌜ m ≤ 32 ⌝ }
     ensures { λ r. ⌜ r ≡ padded (upto (wantedWords (targetOf only (now (target .entry)))) m) 32 noWords ⌝ }
 {
-    let mut wanted = [Words {
-        w0: 0,
-        w1: 0,
-        w2: 0,
-        w3: 0,
-    }; 32];
+    let mut wanted = [NO_WORDS; 32];
     let mut j: usize = 0;
     while j < m {
         wanted[j] = wanted_by(only, target, j);

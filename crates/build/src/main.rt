@@ -27,7 +27,7 @@ fn put_circuit(out: &mut [u8; ROOM], c: Circuit) -> usize
     ensures { λ r. ⌜ Put (now (out .entry)) 0 (listingText (listed c)) (now (out .exit)) r ⌝ }
     ensures { λ r. ⌜ Counts r (now (out .exit)) ⌝ }
 {
-    let depth = listing::depth_of(c);
+    let depth = circuit::depth::depth_of(c);
     let counted = listing::put_counts(out, c.n, c.m, c.g, depth);
     let start = text::put(out, counted, b"\n");
     listing::put_lines(out, start, c)

@@ -2,7 +2,7 @@
 use mathlib.Core.Bool.{Bool, true, false, cond}
 use mathlib.Core.List.{List, [], _∷_}
 use mathlib.Core.Path.{_≡_, refl, sym, ap, ap₂, _∙_}
-use Prim.Native.Nat.{ℕ, zero, suc, _+_, _-_, _*_, _≤_, _<_, max}
+use Prim.Native.Nat.{ℕ, zero, suc, _+_, _-_, _*_, _≤_, _<_, min, max}
 use native.Mathlib.Nat.{add-zero}
 use native.Mathlib.Numerals.{add-one}
 use native.Mathlib.Omega.{arith}
@@ -10,7 +10,8 @@ use borrow.Author.Tests.{le-leb, lt-leb, le-ltb, eq-eqb, ne-eqb}
 use lib.Bits.{bitXor}
 use lib.Dec.{leb, eqb}
 use lib.ListN.{length, getD, drop, drop-of-length-le}
-use Rattle.distance.specs.Base.{Line, lines, Gate, gate, made}
+use Rattle.circuit.proofs.Depths.{deeper-is}
+use Rattle.distance.specs.Base.{Line, lines, Gate, gate, made, Shallow}
 use Rattle.builder.specs.Rule.{Row, row, away, distances, sum, squares, makes, firstIn, firstPair, immediate, Best, best, better, scored, consider, alongLine, allPairs, bestPair, nextGate}
 use Rattle.builder.specs.Kept.{rowsOf}
 use Rattle.builder.proofs.Lists.{made-at, drop-at-next, rows-at, rows-length}
@@ -86,11 +87,11 @@ pub best-eq : {s s′ q q′ i i′ j j′ : ℕ} → s ≡ s′ → q ≡ q′ 
 best-eq p q u v = λ k. best (p k) (q k) (gate (u k) (v k))
 
 -- ---- the pair (i, j) of two lists: w is its depth
-module _ (ms ds : List ℕ) (i j w : ℕ) (l : length ms ≡ length ds) (e : w ≡ suc (max (getD ds i 0) (getD ds j 0))) where
+module _ (ms ds : List ℕ) (i j w : ℕ) (l : length ms ≡ length ds) (shallow : Shallow ds) (e : w ≡ min 255 (suc (max (getD ds i 0) (getD ds j 0)))) where
   pub depth-at : made (lines ms ds) (gate i j) .depth ≡ w
-  depth-at = ap (λ (x : Line). x .depth) (made-at ms ds i j l) ∙ sym e
+  depth-at = ap (λ (x : Line). x .depth) (made-at ms ds i j l) ∙ sym (deeper-is (getD ds i 0) (getD ds j 0) w (omega (arith, shallow i)) (omega (arith, shallow j)) e)
 
-  pub mask-at : made (lines ms ds) (gate i j) .mask ≡ bitXor (getD ms i 0) (getD ms j 0)
+  mask-at : made (lines ms ds) (gate i j) .mask ≡ bitXor (getD ms i 0) (getD ms j 0)
   mask-at = ap (λ (x : Line). x .mask) (made-at ms ds i j l)
 
   pub makes-yes : (t D : ℕ) → bitXor (getD ms i 0) (getD ms j 0) ≡ t → w ≤ D → makes (row t D) (made (lines ms ds) (gate i j)) ≡ true
@@ -101,7 +102,7 @@ module _ (ms ds : List ℕ) (i j w : ℕ) (l : length ms ≡ length ds) (e : w �
 
 pub makes-other : (ms ds : List ℕ) (i j t D : ℕ) → length ms ≡ length ds → (bitXor (getD ms i 0) (getD ms j 0) ≡ t → ⊥) → makes (row t D) (made (lines ms ds) (gate i j)) ≡ false
 makes-other ms ds i j t D l p =
-    rw (ne-eqb (made (lines ms ds) (gate i j) .mask) t (λ q. p (sym (mask-at ms ds i j (suc (max (getD ds i 0) (getD ds j 0))) l refl) ∙ q)))
+    rw (ne-eqb (made (lines ms ds) (gate i j) .mask) t (λ q. p (sym (ap (λ (x : Line). x .mask) (made-at ms ds i j l)) ∙ q)))
 
 -- ---- the first pair that makes a row
 module _ (ls : List Line) (r : Row) (e : ℕ) where

@@ -5,7 +5,7 @@ use Prim.Native.Nat.{ℕ, zero, suc, _+_, _-_, _≤_, _<_, max}
 use native.Mathlib.Numerals.{add-one}
 use native.Mathlib.Omega.{arith}
 use lib.Bits.{bitXor}
-use lib.ListN.{length, getD, take, drop, set, replicate, length-append, length-replicate, drop-of-length-le}
+use lib.ListN.{length, getD, take, drop, set, replicate, length-append, length-replicate}
 use lib.Seq.{take-suc, take-at, take-length, drop-cons, length-take-le}
 use Rattle.circuit.specs.Lines.{greatest}
 use Rattle.circuit.proofs.LineLaws.{put-next}
@@ -107,19 +107,7 @@ rows-limits [] (d ∷ ds) e = absurd (omega arith)
 rows-limits (t ∷ ts) [] e = absurd (omega arith)
 rows-limits (t ∷ ts) (d ∷ ds) e = ap (λ (l : List ℕ). d ∷ l) (rows-limits ts ds (omega arith))
 
--- ---- the greatest of a list, from a place on
-pub greatest-next : (xs : List ℕ) (i : ℕ) → i < length xs → greatest (drop i xs) ≡ max (getD xs i 0) (greatest (drop (i + 1) xs))
-greatest-next xs i h = ap greatest (drop-at-next xs i 0 h)
-
-pub greatest-end : (xs : List ℕ) (i : ℕ) → length xs ≤ i → greatest (drop i xs) ≡ 0
-greatest-end xs i h = ap greatest (drop-of-length-le xs h)
-
--- each is at most the greatest
-pub greatest-le : (xs : List ℕ) (i : ℕ) → getD xs i 0 ≤ greatest xs
-greatest-le [] i = omega arith
-greatest-le (x ∷ xs) zero = omega arith
-greatest-le (x ∷ xs) (suc i) = omega (arith, greatest-le xs i)
-
+-- ---- the greatest of a list
 -- what bounds each bounds the greatest
 pub greatest-below : (xs : List ℕ) (b : ℕ) → ((i : ℕ) → getD xs i 0 ≤ b) → greatest xs ≤ b
 greatest-below [] b f = omega arith

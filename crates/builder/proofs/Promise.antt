@@ -17,12 +17,12 @@ use Rattle.circuit.specs.declared.Writing.the-variants.{Written, NotWritten}
 use Rattle.circuit.specs.Lines.{Listing}
 use Rattle.circuit.specs.Stored.{stored, held, listed}
 use Rattle.circuit.specs.Reading.{shaped}
-use Rattle.circuit.specs.Writing.{writeAnswer, roomAfter, Wrote}
+use Rattle.circuit.specs.Writing.{writeAnswer, roomAfter, Wrote, intoRoom}
 use Rattle.circuit.proofs.Back.{listed-held}
 use Rattle.distance.specs.Base.{inputs}
 use Rattle.builder.specs.declared.Planned.{Planned}
 use Rattle.builder.specs.Rule.{row, taken, xorGate, circuitOf}
-use Rattle.builder.specs.Call.{within, built, refusal, planned, planOf, roomAnswer, buildAnswer, Builds, BuildsNumbered}
+use Rattle.builder.specs.Call.{within, built, refusal, planned, planOf, buildAnswer, Builds, BuildsNumbered}
 use Rattle.builder.proofs.Refusals.{ranged, accepted}
 use Rattle.builder.proofs.Begin.{taken-few}
 
@@ -77,7 +77,7 @@ module _ (n : ℕ) (ts : List ℕ) (D : ℕ) (room : List ℕ) where
 
   pub builds-refused : (w : Refusal) → refusal n ts D ≡ Refused w → Builds n ts D room (NotWritten w) room
   unfolding buildAnswer
-  builds-refused w e = same-room (NotWritten w) (ap (λ (a : Answer). roomAnswer a (length (stored (built n ts D))) (length room)) e) room refl
+  builds-refused w e = same-room (NotWritten w) (ap (λ (a : Answer). intoRoom a (length (stored (built n ts D))) (length room)) e) room refl
 
   pub builds-done : (c : Circuit) (r : Writing) (out : List ℕ) → refusal n ts D ≡ Done → c ≡ held (built n ts D) → Wrote c room r out → Builds n ts D room r out
   unfolding buildAnswer writeAnswer
@@ -87,7 +87,7 @@ module _ (n : ℕ) (ts : List ℕ) (D : ℕ) (room : List ℕ) where
       let h : shaped (c .n) (c .m) (c .g) ≡ true = ap (λ (x : Circuit). shaped (x .n) (x .m) (x .g)) k ∙ built-shaped n ts D (accepted n ts D e .shape) in
       let a : writeAnswer c (length room) ≡ buildAnswer n ts D (length room) =
       (λ i. cond (h i) (cond (leb (length (s i)) (length room)) (Written (length (s i))) (NotWritten NoRoom)) (NotWritten Shape))
-      ∙ ap (λ (x : Answer). roomAnswer x (length (stored l)) (length room)) (sym e) in
+      ∙ ap (λ (x : Answer). intoRoom x (length (stored l)) (length room)) (sym e) in
       record { answer = w .answer ∙ a; bytes = w .bytes ∙ (λ i. roomAfter (a i) (s i) room) }
 
 -- ---- two results that meet a promise are equal

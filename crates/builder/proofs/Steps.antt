@@ -2,7 +2,7 @@
 use mathlib.Core.Bool.{Bool, true, false, cond}
 use mathlib.Core.List.{List, [], _∷_, _++_, map, append-assoc, append-nil}
 use mathlib.Core.Path.{_≡_, refl, sym, ap, ap₂, _∙_, subst}
-use Prim.Native.Nat.{ℕ, zero, suc, _+_, _-_, _^_, _≤_, _<_, max}
+use Prim.Native.Nat.{ℕ, zero, suc, _+_, _-_, _^_, _≤_, _<_, min, max}
 use native.Mathlib.Numerals.{add-one}
 use native.Mathlib.Omega.{arith}
 use borrow.Author.Tests.{le-leb, lt-leb, eq-eqb, ne-eqb, eqb-false}
@@ -11,6 +11,7 @@ use lib.Dec.{eqb}
 use lib.ListN.{length, getD, take, drop, set, length-set, length-map, length-append}
 use lib.Seq.{length-take-le, take-suc-set, getD-take}
 use Rattle.circuit.specs.Lines.{greatest}
+use Rattle.circuit.proofs.Depths.{deeper-is}
 use Rattle.distance.specs.Base.{Line, line, lines, none, Gate, gate, made, run, Small, Shallow}
 use Rattle.distance.specs.Table.{costAt, endOf}
 use Rattle.distance.specs.Table as table
@@ -183,7 +184,11 @@ module _ (ts limits : List ℕ) (s : State) (p : Poised ts limits s) where
     mask-is : made (base s) (gate i j) .mask ≡ m
     mask-is = ap (λ (x : Line). x .mask) made-is
 
-    module _ (w c : ℕ) (ew : w ≡ suc (max (getD (s .depths) i 0) (getD (s .depths) j 0))) (ec : c ≡ costAt w) where
+    module _ (w c : ℕ) (ed : w ≡ min 255 (suc (max (getD (s .depths) i 0) (getD (s .depths) j 0)))) (ec : c ≡ costAt w) where
+      -- no depth comes near to a byte's end
+      ew : w ≡ suc (max (getD (s .depths) i 0) (getD (s .depths) j 0))
+      ew = deeper-is (getD (s .depths) i 0) (getD (s .depths) j 0) w (omega (arith, p .shallow i)) (omega (arith, p .shallow j)) ed
+
       depth-is : made (base s) (gate i j) .depth ≡ w
       depth-is = ap (λ (x : Line). x .depth) made-is ∙ sym ew
 

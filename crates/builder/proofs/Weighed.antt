@@ -2,18 +2,18 @@
 use mathlib.Core.Bool.{Bool, cond}
 use mathlib.Core.List.{List, [], _∷_}
 use mathlib.Core.Path.{_≡_, sym, ap, ap₂, _∙_, subst}
-use Prim.Native.Nat.{ℕ, suc, _*_, _^_, _≤_, _<_, max}
+use Prim.Native.Nat.{ℕ, suc, _*_, _^_, _≤_, _<_, min, max}
 use native.Mathlib.Omega.{arith}
 use lib.Bits.{bitXor, xor-lt}
 use lib.ListN.{length, getD, take}
 use Rattle.circuit.specs.Lines.{greatest}
-use Rattle.distance.specs.Base.{Line, lines, Gate, gate, made}
+use Rattle.distance.specs.Base.{Line, lines, Gate, gate, made, Shallow}
 use Rattle.builder.specs.Rule.{Row, row, away, distances, sum, squares, deepest, Best, best, start, better, consider, allPairs, distancesAfter, bestPair}
 use Rattle.builder.specs.Kept.{Sound, rowsOf, goalsAfter, goalsWith, toGo, placeOf, roomOf, lowOf, Goals, Aimed, Choosing, Weighing}
 use Rattle.builder.proofs.Reach.{away-lt}
 use Rattle.builder.proofs.Goals.{Missed, Alike, alike, are-goals}
 use Rattle.builder.proofs.Lists.{made-at, lines-length, lines-small, rows-length, rows-at, rows-limits, map-at, padded-take, greatest-below}
-use Rattle.builder.proofs.Choice.{consider-deep, consider-over, consider-done, same-pairs}
+use Rattle.builder.proofs.Choice.{depth-at, consider-deep, consider-over, consider-done, same-pairs}
 
 -- the goals' distances sum to little
 pub low-sum : (gs : List ℕ) → ((i : ℕ) → getD gs i 0 < 8) → sum gs ≤ 8 * length gs
@@ -21,7 +21,7 @@ low-sum [] f = omega arith
 low-sum (g ∷ gs) f = omega (arith, f 0, low-sum gs (λ i. f (suc i)))
 
 -- ---- the pair (i, j) of two lists, of depth w and cost c
-module _ (ms ds ps fs gs h : List ℕ) (i j w c : ℕ) (l : length ms ≡ length ds) (e : w ≡ suc (max (getD ds i 0) (getD ds j 0))) (ec : c ≡ 2 ^ w) (top : ℕ) (b : Best) where
+module _ (ms ds ps fs gs h : List ℕ) (i j w c : ℕ) (l : length ms ≡ length ds) (shallow : Shallow ds) (e : w ≡ min 255 (suc (max (getD ds i 0) (getD ds j 0)))) (ec : c ≡ 2 ^ w) (top : ℕ) (b : Best) where
   abbrev ls : List Line
   ls = lines ms ds
 
@@ -32,7 +32,7 @@ module _ (ms ds ps fs gs h : List ℕ) (i j w c : ℕ) (l : length ms ≡ length
   after = goalsWith ls h ps fs gs
 
   deep : made ls (gate i j) .depth ≡ w
-  deep = ap (λ (x : Line). x .depth) (made-at ms ds i j l) ∙ sym e
+  deep = depth-at ms ds i j w l shallow e
 
   after-is : after (gate i j) ≡ goalsAfter h m c ps fs gs
   after-is =

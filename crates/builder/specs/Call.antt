@@ -1,5 +1,5 @@
 -- The call: from n, the rows and a depth limit D to a circuit, or a refusal ("Order. Build"); and what it leaves in the lent room.
-use mathlib.Core.Bool.{Bool, cond, not, _||_}
+use mathlib.Core.Bool.{Bool, not, _||_}
 use mathlib.Core.List.{List, map}
 use mathlib.Core.Path.{_≡_}
 use Prim.Native.Nat.{ℕ, _^_}
@@ -7,13 +7,12 @@ use lib.Dec.{leb, ltb, eqb}
 use lib.ListN.{length}
 use Rattle.circuit.specs.declared.Answer.{Answer}
 use Rattle.circuit.specs.declared.Answer.the-variants.{Done, Refused}
-use Rattle.circuit.specs.declared.Refusal.the-variants.{Shape, Target, TooDeep, TooShallow, NoRoom}
+use Rattle.circuit.specs.declared.Refusal.the-variants.{Shape, Target, TooDeep, TooShallow}
 use Rattle.circuit.specs.declared.Writing.{Writing}
-use Rattle.circuit.specs.declared.Writing.the-variants.{Written, NotWritten}
 use Rattle.circuit.specs.Lines.{Listing, anyOf}
 use Rattle.circuit.specs.Stored.{stored, held, noCircuit}
 use Rattle.circuit.specs.Reading.{shaped, unless}
-use Rattle.circuit.specs.Writing.{roomAfter, writingCode}
+use Rattle.circuit.specs.Writing.{intoRoom, roomAfter, writingCode}
 use Rattle.distance.specs.Base.{inputs, weight}
 use Rattle.builder.specs.declared.Planned.{Planned}
 use Rattle.builder.specs.Rule.{Row, row, circuitOf}
@@ -47,16 +46,13 @@ abbrev pub planned : Answer → Listing → Planned
 planned Done c = record { circuit = held c; answer = Done }
 planned (Refused w) c = record { circuit = noCircuit; answer = Refused w }
 
+-- what `plan` gives for n, rows and D
 unfoldable pub planOf : ℕ → List ℕ → ℕ → Planned
 planOf n ts D = planned (refusal n ts D) (built n ts D)
 
 -- how many bytes stand first in the room, or why none does: a room shorter than the stored answer (11) is found last
-abbrev pub roomAnswer : Answer → ℕ → ℕ → Writing
-roomAnswer Done size room = cond (leb size room) (Written size) (NotWritten NoRoom)
-roomAnswer (Refused w) size room = NotWritten w
-
 unfoldable pub buildAnswer : ℕ → List ℕ → ℕ → ℕ → Writing
-buildAnswer n ts D room = roomAnswer (refusal n ts D) (length (stored (built n ts D))) room
+buildAnswer n ts D room = intoRoom (refusal n ts D) (length (stored (built n ts D))) room
 
 -- what `build` promises of its answer and of the room
 pub record Builds (n : ℕ) (ts : List ℕ) (D : ℕ) (room : List ℕ) (r : Writing) (out : List ℕ) : Type 0 where

@@ -24,6 +24,7 @@ pub record Sound (r : Row) : Type 0 where
   pub some : r .mask ≡ 0 → ⊥
   pub shallow : r .limit < 16
 
+-- each row is sound
 abbrev pub Sounds : List Row → Type 0
 Sounds [] = Unit {0}
 Sounds (r ∷ rs) = Sound r × Sounds rs
@@ -61,6 +62,7 @@ missed h m c [] fs = []
 missed h m c (p ∷ ps) [] = []
 missed h m c (p ∷ ps) (f ∷ fs) = misses h p f m c ∷ missed h m c ps fs
 
+-- two lists added entry by entry
 abbrev pub added : List ℕ → List ℕ → List ℕ
 added [] ys = []
 added (x ∷ xs) [] = []
@@ -77,12 +79,15 @@ toGo f (g ∷ gs) [] = []
 toGo f (zero ∷ gs) (x ∷ xs) = toGo f gs xs
 toGo f (suc g ∷ gs) (x ∷ xs) = f g x ∷ toGo f gs xs
 
+-- a goal's place in the table
 abbrev pub placeOf : ℕ → ℕ → ℕ
 placeOf g t = g * 256 + t
 
+-- a goal's room: 2 ^ limit
 abbrev pub roomOf : ℕ → ℕ → ℕ
 roomOf g limit = costAt limit
 
+-- a goal's distance less one
 abbrev pub lowOf : ℕ → ℕ → ℕ
 lowOf g t = g
 
@@ -103,6 +108,7 @@ pub record Aimed (ts limits gaps places rooms lows : List ℕ) (k floor : ℕ) :
   pub floor-is : floor ≡ sum (toGo lowOf gaps ts)
 
 -- ---- what the choice of a gate is given: the base in two lists, the rows in two more, their distances, and the table
+-- what the choice of a gate is given: the base in two lists, the rows in two more, their distances, and the table
 pub record Choosing (ms ds ts limits gaps h : List ℕ) : Type 0 where
   pub even : length ms ≡ length ds
   pub shallow : Shallow ds
@@ -131,6 +137,7 @@ abbrev pub nextGap : List ℕ → ℕ → ℕ → ℕ → ℕ → ℕ → ℕ
 nextGap h m c zero t d = 0
 nextGap h m c (suc g) t d = g + misses h (placeOf g t) (roomOf g d) m c
 
+-- the same of each row
 abbrev pub nextGaps : List ℕ → ℕ → ℕ → List ℕ → List ℕ → List ℕ → List ℕ
 nextGaps h m c [] ts ds = []
 nextGaps h m c (g ∷ gs) [] ds = []

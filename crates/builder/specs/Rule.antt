@@ -14,6 +14,7 @@ pub record Row : Type 0 where
   pub mask : ℕ
   pub limit : ℕ
 
+-- the row with this mask and limit
 abbrev pub row : ℕ → ℕ → Row
 row t d = record { mask = t; limit = d }
 
@@ -26,12 +27,15 @@ abbrev pub count : Gap → ℕ
 count (gates g) = g
 count never = 0
 
+-- a row's distance as a number
 abbrev pub away : List Line → Row → ℕ
 away ls r = count (reach ls r)
 
+-- the distance of each row
 abbrev pub distances : List Line → List Row → List ℕ
 distances ls rs = map (away ls) rs
 
+-- the sum of some numbers
 abbrev pub sum : List ℕ → ℕ
 sum [] = 0
 sum (x ∷ xs) = x + sum xs
@@ -79,6 +83,7 @@ pub record Best : Type 0 where
   pub square : ℕ
   pub pair : Gate
 
+-- a pair with the sums that it gives
 abbrev pub best : ℕ → ℕ → Gate → Best
 best s q g = record { total = s; square = q; pair = g }
 
@@ -90,6 +95,7 @@ start = best 4096 0 (gate 0 0)
 abbrev pub better : Best → Best → Bool
 better x y = ltb (x .total) (y .total) || (eqb (x .total) (y .total) && ltb (y .square) (x .square))
 
+-- a pair by the distances that it leaves
 abbrev pub scored : List ℕ → Gate → Best
 scored ds g = best (sum ds) (squares ds) g
 
@@ -116,6 +122,7 @@ module _ (ls : List Line) (after : Gate → List ℕ) (top : ℕ) where
 abbrev pub distancesAfter : List Line → List Row → Gate → List ℕ
 distancesAfter ls rs g = distances (ls ++ (made ls g ∷ [])) rs
 
+-- the best of all pairs
 abbrev pub bestPair : List Line → List Row → Gate
 bestPair ls rs = allPairs ls (distancesAfter ls rs) (deepest rs) (length ls) 0 start .pair
 
@@ -142,6 +149,7 @@ abbrev pub lowestFrom : Row → ℕ → List Line → ℕ
 lowestFrom r i [] = 0
 lowestFrom r i (l ∷ ls) = let more = lowestFrom r (suc i) ls in cond (makes r l) i more
 
+-- the number of the row's lowest line within its limit, or 0
 abbrev pub lowest : List Line → Row → ℕ
 lowest ls r = lowestFrom r 0 ls
 

@@ -9,6 +9,7 @@ ghost use Rattle.builder.specs.Call.{planOf, Builds, BuildsNumbered};
 use circuit::Answer;
 use circuit::Circuit;
 use circuit::Writing;
+use circuit::no_circuit;
 use circuit::restore::writing_code;
 use circuit::writer::write;
 
@@ -25,15 +26,7 @@ pub fn plan(n: usize, rows: &[u8], d: usize) -> Planned
     let answer = look::look(n, rows, d);
     match answer {
         Answer::Refused(why) => {
-            let none = Circuit {
-                n: 0,
-                m: 0,
-                g: 0,
-                kinds: [0u8; 248],
-                left: [0u8; 248],
-                right: [0u8; 248],
-                outputs: [0u8; 32],
-            };
+            let none = no_circuit();
             Planned {
                 circuit: none,
                 answer: Answer::Refused(why),

@@ -1,11 +1,12 @@
 // The choice of the next gate: the first pair that makes a row one gate away, or else the pair that leaves the least to do.
 ghost use mathlib.Core.Path.{_≡_};
-ghost use Prim.Native.Nat.{ℕ, suc, max, _+_, _≤_, _<_};
+ghost use Prim.Native.Nat.{ℕ, _+_, _≤_, _<_};
 ghost use lib.ListN.{length, getD};
-ghost use Rattle.circuit.specs.Lines.{greatest};
 ghost use Rattle.distance.specs.Base.{lines, Shallow, gate};
 ghost use Rattle.builder.specs.Rule.{row, squares, best, better, start, firstPair, allPairs, bestPair};
 ghost use Rattle.builder.specs.Kept.{rowsOf, Capped, misses as missesOf, goalsAfter, goalsWith, Goals as AreGoals, Weighing, Aimed, Choosing, Chosen};
+use circuit::depth::deeper;
+use circuit::depth::greatest_of;
 use distance::table::cost;
 
 // The rows that are not made yet: the table's place, the room 2^limit, and the distance less one, of each.
@@ -35,27 +36,6 @@ pub(crate) struct Turn {
     pub over: bool,
     pub a: usize,
     pub b: usize,
-}
-
-// The depth of a gate that reads lines of depths x and y.
-pub(crate) fn above(x: u8, y: u8) -> u8
-    requires { ⌜ x < 16 ⌝ ∗ ⌜ y < 16 ⌝ }
-    ensures { λ r. ⌜ r ≡ suc (max x y) ⌝ }
-{
-    if x < y { y + 1 } else { x + 1 }
-}
-
-// The greatest of some numbers, or 0.
-pub(crate) fn greatest_of(xs: &[u8]) -> u8
-    ensures { λ r. ⌜ r ≡ greatest (now (xs .entry)) ⌝ }
-{
-    let mut top: u8 = 0;
-    for i in 0..xs.len() {
-        if top < xs[i] {
-            top = xs[i];
-        }
-    }
-    top
 }
 
 // 0 where a line with mask m and cost c brings a goal one gate nearer, and 1 where the goal stays where it is. A line made
@@ -119,7 +99,7 @@ fn weigh(
     let mut b: usize = 0;
     for i in 0..masks.len() {
         'pairs: for j in i + 1..masks.len() {
-            let depth = above(depths[i], depths[j]);
+            let depth = deeper(depths[i], depths[j]);
             if top < depth {
                 continue 'pairs;
             }
@@ -221,7 +201,7 @@ fn first_pair(masks: &[u8], depths: &[u8], t: u8, limit: u8) -> Pair
     for i in 0..masks.len() {
         for j in i + 1..masks.len() {
             if masks[i] ^ masks[j] == t {
-                if above(depths[i], depths[j]) <= limit {
+                if deeper(depths[i], depths[j]) <= limit {
                     return Pair { a: i, b: j };
                 }
             }

@@ -1,9 +1,9 @@
 -- A held array, one entry for each line, while gates are re-examined one by one from gate e on: for any step. The array is
 -- at each moment the fresh lines so far, and what was held from there on. Assumes nothing.
 use mathlib.Core.Path.{_≡_, refl, ap, ap₂, _∙_, sym, subst}
-use mathlib.Core.Bool.{Bool, true, false}
+use mathlib.Core.Bool.{false}
 use mathlib.Core.List.{List, [], _∷_, _++_, append-assoc, map}
-use Prim.Native.Nat.{ℕ, zero, suc, _≤_, _<_, _-_, _+_}
+use Prim.Native.Nat.{ℕ, suc, _≤_, _<_, _+_}
 use native.Mathlib.Omega.{arith}
 use lib.ListN.{length, getD, take, drop, set, replicate, take-append-drop, List·getD-append}
 use lib.Seq.{drop-cons, take-append-le, drop-at}

@@ -8,6 +8,8 @@ pub mod Records
 pub mod Accept
 pub mod Round
 pub mod Over
+pub mod Operands
+pub mod Depths
 pub mod Written
 pub mod Back
 pub mod Restoring

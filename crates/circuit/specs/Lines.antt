@@ -1,5 +1,5 @@
 -- Circuits, and what each line of one has: one recursion over the gates, for any such thing.
-use mathlib.Core.Bool.{Bool, true, false, _||_}
+use mathlib.Core.Bool.{Bool, false, _||_}
 use mathlib.Core.List.{List, [], _∷_, _++_, map}
 use Prim.Native.Nat.{ℕ, zero, suc, _+_, max}
 use lib.Dec.{eqb}
@@ -119,9 +119,11 @@ overall ls = greatest ls
 abbrev pub depthOf : Listing → ℕ
 depthOf c = overall (depths (c .inputs) (gateAt c) (length (c .gates)))
 
+-- the circuit's AND depth
 abbrev pub andDepthOf : Listing → ℕ
 andDepthOf c = overall (andDepths (c .inputs) (gateAt c) (length (c .gates)))
 
+-- the circuit's counts of XOR-type, nonlinear and NOT gates
 abbrev pub countsOf : Listing → Tally
 countsOf c = tallyOf (map (λ (q : Gate). q .kind) (c .gates))
 

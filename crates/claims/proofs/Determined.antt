@@ -1,8 +1,8 @@
 -- For each public function: two results that meet its promise are equal, the answer, the bench and each lent byte.
 --
 -- A promise that is an equation, `r ≡ x`, is under `determined`, whatever r is. These are:
---   circuit:  gate::{eval_gate, second_read, and_weight, tally}, reader::{is_shape, check_gate, check_output, read}, restore::writing_code,
---             and, in the first half of their promise, wide and refusal_no
+--   circuit:  low_byte, no_circuit, gate::{eval_gate, second_read, and_weight, tally}, depth::{deeper, greatest_of, depth_of},
+--             reader::{is_shape, check_gate, check_output, read}, restore::writing_code, and, in the first half of their promise, wide and refusal_no
 --   distance: distance, distance_no, refusal_no, table::cost
 --   builder:  plan
 --   bench:    opening::empty, storing::circuit_of

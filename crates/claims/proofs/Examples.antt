@@ -21,8 +21,7 @@ use Rattle.bench.specs.declared.Verdict.the-variants.{Wrong, OverDepth, Pass}
 use Rattle.bench.specs.declared.Reported.{Reported}
 use Rattle.bench.specs.declared.Reported.the-variants.{Given}
 use Rattle.bench.specs.Target.{matrix, table, rowFits, entryFits, allOf, targetFits}
-use Rattle.bench.specs.State.{least, verdictOf, reportOf}
-use Rattle.bench.specs.Parts.{limits}
+use Rattle.bench.specs.State.{least, verdictOf, reportOf, limits}
 use Rattle.bench.specs.Calls.{openAnswer, gateEditAnswer, outputEditAnswer, entryEditAnswer, placesFrom, sizeOf, gateEdit, reported}
 use Rattle.bench.specs.Run.{Call, presentAfter}
 use Rattle.bench.specs.Run.Call.{opening, replacing, pointing, changing}

@@ -19,7 +19,7 @@ use Rattle.circuit.specs.Lines.{Listing}
 use Rattle.circuit.specs.Stored.{stored, listingIn, gateBytes, outBytes, listed}
 use Rattle.circuit.specs.Reading.{refusalNo, answerNo, unless, readAnswer, readStored, readingOf, listingAnswer}
 use Rattle.circuit.specs.Reading.Outcome.{found}
-use Rattle.circuit.specs.Writing.{writingNo, writeAnswer, roomAfter, Wrote, writingCode, restoring, restoreAnswer, Restored}
+use Rattle.circuit.specs.Writing.{writingNo, writeAnswer, roomAfter, Wrote, writingCode, intoRoom, restoreAnswer, Restored}
 use Rattle.circuit.proofs.Accept.{whole}
 use Rattle.circuit.proofs.Round.{gate-bytes-length, out-bytes-length, read-stored, stored-read}
 use Rattle.circuit.proofs.Restoring.{answer-of}
@@ -28,11 +28,11 @@ use Rattle.distance.specs.declared.Looked.{Looked}
 use Rattle.distance.specs.declared.Looked.the-variants.{Sound as Looks, Unsound}
 use Rattle.distance.specs.declared.Answer.{Answer as Distance}
 use Rattle.distance.specs.Base.{lines, Line}
-use Rattle.distance.specs.Distance.{Gap, gates, never, distance, can, pickGap, gapFrom}
+use Rattle.distance.specs.Distance.{Gap, gates, never, distance, can, gapFrom}
 use Rattle.distance.specs.Query as query
 use Rattle.distance.specs.Query.{lookAt, answered, answerOf}
 use Rattle.distance.proofs.Refuse.{fit}
-use Rattle.builder.specs.Call.{built, refusal, roomAnswer, buildAnswer, Builds, BuildsNumbered}
+use Rattle.builder.specs.Call.{built, refusal, buildAnswer, Builds, BuildsNumbered}
 use Rattle.builder.proofs.Refusals.{ranged}
 use Rattle.builder.proofs.Refusals as building
 use Rattle.builder.proofs.Promise.{built-few, built-outs}
@@ -185,7 +185,7 @@ restore-numbered only s room r out h =
     small : (k : ℕ) → restoreAnswer only s (length room) ≡ Written k → k < 65536
     small k e = by (readAnswer only s) refl e
       where
-        by : (a : Answer) → readAnswer only s ≡ a → restoring a (length s) (length room) ≡ Written k → k < 65536
+        by : (a : Answer) → readAnswer only s ≡ a → intoRoom a (length s) (length room) ≡ Written k → k < 65536
         by Done q e = let w = whole only s q in omega (arith, written-size (leb (length s) (length room)) (length s) k e, w .m32, w .g248, w .long)
         by (Refused w) q e = let z : _≡_ {A = ℕ} 0 1 = cc in absurd (omega arith)
 
@@ -208,7 +208,7 @@ build-numbered n ts D room r out h =
     small : (k : ℕ) → buildAnswer n ts D (length room) ≡ Written k → k < 65536
     small k e = by (refusal n ts D) refl e
       where
-        by : (a : Answer) → refusal n ts D ≡ a → roomAnswer a (length (stored (built n ts D))) (length room) ≡ Written k → k < 65536
+        by : (a : Answer) → refusal n ts D ≡ a → intoRoom a (length (stored (built n ts D))) (length room) ≡ Written k → k < 65536
         by Done q e =
             let c = built n ts D in
             let few = ranged n (length ts) 0 (building.accepted n ts D q .shape) .few in
@@ -229,7 +229,7 @@ distance-numbered n ms ds t D r e =
     below zero g t b k ls e = let z : _≡_ {A = ℕ} 0 1 = cc in absurd (omega arith)
     below (suc f) g t b k ls e = by (can (suc g) t b ls) e (below f (suc g) t b k ls)
       where
-        by : (x : Bool) → pickGap x (gates g) (gapFrom f (suc g) t b ls) ≡ gates k → (gapFrom f (suc g) t b ls ≡ gates k → k < suc g + f) → k < g + suc f
+        by : (x : Bool) → cond x (gates g) (gapFrom f (suc g) t b ls) ≡ gates k → (gapFrom f (suc g) t b ls ≡ gates k → k < suc g + f) → k < g + suc f
         by true e rest = let z : g ≡ k = cc in omega arith
         by false e rest = omega (arith, rest e)
 

@@ -3,7 +3,7 @@ use mathlib.Core.Path.{_≡_, refl, sym, ap, _∙_, subst}
 use mathlib.Core.Bool.{Bool, true, false, true≢false, cond, not, _&&_, _||_}
 use mathlib.Core.Logic.{_⊎_, inl, inr}
 use mathlib.Core.List.{List, [], _∷_, map}
-use Prim.Native.Nat.{ℕ, zero, suc, _+_, _*_, _^_, _≤_, _<_, _-_}
+use Prim.Native.Nat.{ℕ, zero, suc, _+_, _*_, _^_, _≤_, _<_}
 use native.Mathlib.Nat.{add-zero}
 use native.Mathlib.Omega.{arith}
 use lib.Dec.{leb, ltb, eqb}
@@ -17,7 +17,7 @@ use Rattle.circuit.specs.declared.Writing.the-variants.{Written, NotWritten}
 use Rattle.circuit.specs.Lines.{Listing, anyOf}
 use Rattle.circuit.specs.Stored.{stored, listingIn, outIn}
 use Rattle.circuit.specs.Reading.{refusalNo, answerNo, andThen, unless, shaped, secondFits, gateAnswer, outAnswer, gateRecord, outRecord, gateHere, outHere, answers, bodyAnswer, readAnswer}
-use Rattle.circuit.specs.Writing.{writingNo}
+use Rattle.circuit.specs.Writing.{writingNo, intoRoom}
 use Rattle.circuit.proofs.Records.{records-length}
 use Rattle.distance.specs.declared.Refusal.the-variants.{Inputs, Lists, Mask, Depth}
 use Rattle.distance.specs.declared.Looked.{Looked}
@@ -26,7 +26,7 @@ use Rattle.distance.specs.Base.{lines, weight}
 use Rattle.distance.specs.Distance.{Gap, gates, never, distance}
 use Rattle.distance.specs.Query as query
 use Rattle.distance.specs.Query.{anyFrom, badLists, badMask, badDepth, refuse, lookAt, answered, answerOf}
-use Rattle.builder.specs.Call.{built, badRow, tooHeavy, refusal, roomAnswer, buildAnswer}
+use Rattle.builder.specs.Call.{built, badRow, tooHeavy, refusal, buildAnswer}
 use Rattle.bench.specs.Target.{Target, matrix, table, isMatrix, rowFits, entryFits, allOf, targetFits}
 use Rattle.bench.specs.State.{Present, nothing, present}
 use Rattle.bench.specs.Calls.{openAnswer, gateEditAnswer, outputEditAnswer, entryAnswer, entryEditAnswer, limitsAnswer, reported, storeAnswer}
@@ -222,7 +222,7 @@ store-law nothing room = λ n. (sym, sym)
 store-law (present s) room = room-law (length (stored (s .circuit))) room
 
 -- an answer, and then the room
-pub room-then : (a : Answer) (size room : ℕ) → answerNo (andThen a (unless (leb size room) NoRoom Done)) ≡ writingNo (roomAnswer a size room)
+pub room-then : (a : Answer) (size room : ℕ) → answerNo (andThen a (unless (leb size room) NoRoom Done)) ≡ writingNo (intoRoom a size room)
 room-then (Refused w) size room = refl
 room-then Done size room = by (leb size room)
   where

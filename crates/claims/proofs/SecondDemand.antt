@@ -2,7 +2,7 @@
 -- depth; the builder follows the rule, and refuses a sound matrix as too shallow exactly when no XOR program of that depth computes it.
 use mathlib.Core.Path.{_≡_, refl, sym, ap, ap₂, _∙_, subst}
 use mathlib.Core.Bool.{Bool, true, false, cond}
-use mathlib.Core.Logic.{_↔_, _⊎_, inl, inr, ⊎-elim}
+use mathlib.Core.Logic.{_↔_, inl, inr, ⊎-elim}
 use mathlib.Core.List.{List, [], _∷_, _++_, map}
 use Prim.Native.Nat.{ℕ, zero, suc, _+_, _-_, _%_, _^_, _≤_, _<_, min}
 use native.Mathlib.Nat.{div-eq-of-lt, eq-or-lt-of-le}
@@ -23,7 +23,7 @@ use Rattle.circuit.specs.Lines.{Listing, gateAt, greatest, andStep, depthOf, an
 use Rattle.circuit.specs.Stored.{stored}
 use Rattle.circuit.specs.Reading.{shaped, readStored}
 use Rattle.circuit.specs.Reading.Outcome.{found}
-use Rattle.circuit.specs.Writing.{roomAfter}
+use Rattle.circuit.specs.Writing.{roomAfter, intoRoom}
 use Rattle.circuit.proofs.GateLaws.{bit-lt, bit-and}
 use Rattle.distance.specs.declared.Refusal.{Refusal as QueryRefusal}
 use Rattle.distance.specs.declared.Refusal.the-variants.{Inputs, Lists, Mask, Depth}
@@ -37,7 +37,7 @@ use Rattle.distance.specs.Query as query
 use Rattle.distance.specs.Query.{lookAt, answered, answerOf}
 use Rattle.distance.proofs.Theorems as distances
 use Rattle.builder.specs.Rule.{lowest, sum, taken, xorGate, circuitOf}
-use Rattle.builder.specs.Call.{within, built, badRow, tooHeavy, refusal, roomAnswer, buildAnswer, Builds}
+use Rattle.builder.specs.Call.{within, built, badRow, tooHeavy, refusal, buildAnswer, Builds}
 use Rattle.builder.specs.Matrix.{rowOn, Computes}
 use Rattle.builder.proofs.Refusals.{accepted, fit}
 use Rattle.builder.proofs.Promise.{built-inputs, built-outs}
@@ -221,13 +221,13 @@ module _ (n : ℕ) (ts : List ℕ) (D : ℕ) (room : List ℕ) (k : ℕ) (out : 
   unfolding buildAnswer
   nothing-refused = by (refusal n ts D) (h .answer)
     where
-      by : (a : Answer) → Written k ≡ roomAnswer a (length bytes) (length room) → a ≡ Done
+      by : (a : Answer) → Written k ≡ intoRoom a (length bytes) (length room) → a ≡ Done
       by Done e = refl
       by (Refused w) e = let z : _≡_ {A = ℕ} 0 1 = cc in absurd (omega arith)
 
   size-is : length bytes ≡ k
   unfolding buildAnswer
-  size-is = by (leb (length bytes) (length room)) (h .answer ∙ ap (λ (a : Answer). roomAnswer a (length bytes) (length room)) nothing-refused)
+  size-is = by (leb (length bytes) (length room)) (h .answer ∙ ap (λ (a : Answer). intoRoom a (length bytes) (length room)) nothing-refused)
     where
       by : (t : Bool) → Written k ≡ cond t (Written (length bytes)) (NotWritten NoRoom) → length bytes ≡ k
       by true e = cc
@@ -260,14 +260,14 @@ module _ (n : ℕ) (ts : List ℕ) (D : ℕ) (range : OutOfRange n (length ts) 0
   unfolding buildAnswer
   answered-so = (
     λ e. by (refusal n ts D) (sym (h .answer) ∙ e),
-    λ e. h .answer ∙ ap (λ (a : Answer). roomAnswer a (length (stored (built n ts D))) (length room)) e,
+    λ e. h .answer ∙ ap (λ (a : Answer). intoRoom a (length (stored (built n ts D))) (length room)) e,
   )
     where
       written : (t : Bool) (size : ℕ) → cond t (Written size) (NotWritten NoRoom) ≡ NotWritten TooShallow → ⊥
       written true size e = let z : _≡_ {A = ℕ} 0 1 = cc in omega arith
       written false size e = let z : _≡_ {A = ℕ} 0 1 = cc in omega arith
 
-      by : (a : Answer) → roomAnswer a (length (stored (built n ts D))) (length room) ≡ NotWritten TooShallow → a ≡ Refused TooShallow
+      by : (a : Answer) → intoRoom a (length (stored (built n ts D))) (length room) ≡ NotWritten TooShallow → a ≡ Refused TooShallow
       by Done e = absurd (written (leb (length (stored (built n ts D))) (length room)) (length (stored (built n ts D))) e)
       by (Refused w) e = let z : w ≡ TooShallow = cc in ap Refused z
 

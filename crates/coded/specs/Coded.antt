@@ -32,6 +32,7 @@ editCode e = record { refusal = answerNo (e .answer); count = e .count; lines = 
 unfoldable pub openCoded : Opened → OpenedNumbers
 openCoded r = record { bench = r .bench; refusal = answerNo (r .answer) }
 
+-- the same of an edit
 unfoldable pub editCoded : Edited → EditedNumbers
 editCoded r = record { bench = r .bench; edit = editCode (r .edit) }
 
@@ -64,6 +65,7 @@ reportCode r =
 abbrev pub refusedCode : ℕ → ReportNumbers
 refusedCode n = record { refusal = n; gates = 0; xors = 0; nonlinear = 0; nots = 0; depth = 0; ands = 0; verdict = 0; input = 0; output = 0 }
 
+-- what a report answers, in numbers
 abbrev pub reportedCode : Reported → ReportNumbers
 reportedCode (Given r) = reportCode r
 reportedCode (NotGiven w) = refusedCode (refusalNo w)

@@ -1,9 +1,8 @@
 // The calls by value with numbers for answers, as other languages take them: 0 or the refusal's number, and the counts.
 ghost use mathlib.Core.Path.{_≡_};
-ghost use Prim.Native.Nat.{_<_};
 ghost use Rattle.circuit.specs.Reading.{answerNo};
 ghost use Rattle.bench.specs.Target.{matrix, table};
-ghost use Rattle.bench.specs.Parts.{limits};
+ghost use Rattle.bench.specs.State.{limits};
 ghost use Rattle.coded.specs.Coded.{openCoded, editCoded, verdictCode, reportCode, refusedCode, OpenCode, GateCode, OutputCode, EntryCode, LimitsCode, ReportCodePromise, StoreCode};
 use bench::Bench;
 use bench::Edit;

@@ -1,6 +1,6 @@
 // The outer calls, on a bench that is lent to be changed where it stands. Each is thin: the form by value does the work.
 ghost use Rattle.bench.specs.Target.{matrix, table};
-ghost use Rattle.bench.specs.Parts.{limits};
+ghost use Rattle.bench.specs.State.{limits};
 ghost use Rattle.bench.specs.Calls.{OpenPromise, GatePromise, OutputPromise, EntryPromise, LimitsPromise, ReportPromise, StorePromise};
 use bench::Bench;
 use bench::Edit;

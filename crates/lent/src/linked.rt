@@ -4,7 +4,7 @@ ghost use Rattle.circuit.specs.Writing.{Restored};
 ghost use Rattle.distance.specs.Query.{answerNo, answerOf};
 ghost use Rattle.builder.specs.Call.{BuildsNumbered};
 ghost use Rattle.bench.specs.Target.{matrix, table};
-ghost use Rattle.bench.specs.Parts.{limits};
+ghost use Rattle.bench.specs.State.{limits};
 ghost use Rattle.coded.specs.Coded.{OpenCode, GateCode, OutputCode, EntryCode, LimitsCode, ReportCodePromise, StoreCode};
 use bench::Bench;
 use coded::EditNumbers;

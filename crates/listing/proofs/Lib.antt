@@ -1,5 +1,4 @@
 -- Laws of the definitions in specs/, which the proofs of the functions and the crates above cite.
 pub mod Names
 pub mod Listed
-pub mod Depths
 pub mod Examples

@@ -1,20 +1,18 @@
--- The lines of a circuit's gates and outputs, one after the other: as the loops put them, and as the circuit has them. Assumes nothing.
+-- The lines of a circuit's gates and outputs, one after the other: as the loops put them, and as the circuit has them; the whole listing. Assumes nothing.
 use mathlib.Core.Path.{_≡_, refl, ap, ap₂, _∙_, sym}
 use mathlib.Core.Bool.{Bool, true, false, cond}
-use mathlib.Core.Logic.{⊎-elim}
-use mathlib.Core.List.{List, [], _∷_, _++_}
+use mathlib.Core.List.{List, [], _++_}
 use Prim.Native.Nat.{ℕ, zero, suc, _+_, _<_}
 use native.Mathlib.Omega.{arith}
-use native.Mathlib.Nat.{eq-or-lt-of-le}
 use native.Mathlib.Numerals.{add-one}
-use lib.ListN.{getD, List·getD-append}
-use lib.Seq.{getD-at}
+use lib.ListN.{getD}
 use Rattle.circuit.specs.declared.Circuit.{Circuit}
-use Rattle.circuit.specs.Lines.{upto, gateAt, noGate}
+use Rattle.circuit.specs.Lines.{upto, gateAt, depthOf}
 use Rattle.circuit.specs.Stored.{gateOf, outOf, listed}
 use Rattle.circuit.specs.Reading.{shaped}
-use Rattle.circuit.proofs.Over.{upto-length}
-use Rattle.listing.specs.Printed.{gateLine, outputLine, linesTo, gatesText, outputsText, linesText, linesIn}
+use Rattle.circuit.specs.Depth.{depthIn}
+use Rattle.circuit.proofs.Over.{upto-length, upto-at, gate-listed}
+use Rattle.listing.specs.Printed.{gateLine, outputLine, linesTo, gatesText, outputsText, linesText, countsText, newLine, listingText, linesIn}
 
 -- one line more
 pub lines-next : (f : ℕ → List ℕ) (j : ℕ) → linesTo f j ++ f j ≡ linesTo f (j + 1)
@@ -27,24 +25,11 @@ unfolding linesTo
 lines-same f h zero e = refl
 lines-same f h (suc j) e = ap₂ (λ (a b : List ℕ). a ++ b) (lines-same f h j (λ k l. e k (omega arith))) (e j (omega arith))
 
--- element k of f 0, f 1, ..
-pub upto-at : {A : Type 0} (f : ℕ → A) (d : A) (j k : ℕ) → k < j → getD (upto f j) k d ≡ f k
-unfolding upto
-upto-at f d zero k h = absurd (omega arith)
-upto-at f d (suc j) k h =
-    ⊎-elim (λ e. getD-at (upto f j) (f j) [] d k (upto-length f j ∙ sym e) ∙ ap f (sym e))
-    (λ l. List·getD-append (upto f j) (f j ∷ []) d k (omega (arith, upto-length f j)) ∙ upto-at f d j k l)
-    (eq-or-lt-of-le {n = k} {m = j} (omega arith))
-
 module _ (c : Circuit) where
-  -- gate k of the circuit that a struct stands for
-  pub gate-listed : (k : ℕ) → k < c .g → gateAt (listed c) k ≡ gateOf c k
-  gate-listed k h = upto-at (gateOf c) noGate (c .g) k h
-
   -- the gates' lines from the struct's arrays are the circuit's
   pub gates-listed : linesTo (λ (k : ℕ). gateLine (c .n) k (gateOf c k)) (c .g) ≡ gatesText (listed c)
   gates-listed =
-      lines-same _ (λ (k : ℕ). gateLine (c .n) k (gateAt (listed c) k)) (c .g) (λ k h. ap (gateLine (c .n) k) (sym (gate-listed k h)))
+      lines-same _ (λ (k : ℕ). gateLine (c .n) k (gateAt (listed c) k)) (c .g) (λ k h. ap (gateLine (c .n) k) (sym (gate-listed c k h)))
       ∙ ap (linesTo (λ (k : ℕ). gateLine (c .n) k (gateAt (listed c) k))) (sym (upto-length (gateOf c) (c .g)))
 
   -- the outputs' lines likewise
@@ -64,3 +49,12 @@ all-lines c e = (λ i. gates-listed c i ++ outputs-listed c i) ∙ sym (ap (λ (
 pub no-lines : (c : Circuit) → shaped (c .n) (c .m) (c .g) ≡ false → [] ≡ linesIn c
 unfolding linesIn
 no-lines c e = sym (ap (λ (t : Bool). cond t (linesText (listed c)) []) e)
+
+-- the counts, the end of the line and the lines of a struct in range are the text of the circuit that it stands for
+pub listing-of : (c : Circuit) → shaped (c .n) (c .m) (c .g) ≡ true
+    → countsText (c .n) (c .m) (c .g) (depthIn c) ++ newLine ++ linesIn c ≡ listingText (listed c)
+unfolding linesIn depthIn
+listing-of c e =
+    let m = sym (upto-length (outOf c) (c .m)) in
+    let g = sym (upto-length (gateOf c) (c .g)) in
+    λ i. countsText (c .n) (m i) (g i) (cond (e i) (depthOf (listed c)) 0) ++ newLine ++ cond (e i) (linesText (listed c)) []

@@ -106,7 +106,3 @@ refusedSize = 32
 -- the lines of the circuit that a struct stands for; a struct out of range has none
 unfoldable pub linesIn : Circuit → List ℕ
 linesIn c = cond (shaped (c .n) (c .m) (c .g)) (linesText (listed c)) []
-
--- its depth; a struct out of range has 0
-unfoldable pub depthIn : Circuit → ℕ
-depthIn c = cond (shaped (c .n) (c .m) (c .g)) (depthOf (listed c)) 0

@@ -1,15 +1,12 @@
-// A circuit as text in a lent room, as the build program and the bench's `show` write it; its depth.
-ghost use mathlib.Core.Path.{_≡_};
-ghost use Prim.Native.Nat.{ℕ, _+_, _*_, _<_, _≤_, max};
+// A circuit as text in a lent room, as the build program and the bench's `show` write it.
+ghost use Prim.Native.Nat.{ℕ, _+_, _*_, _<_, _≤_};
 ghost use lib.ListN.{length};
 ghost use Rattle.circuit.specs.Gate.{kindOf};
-ghost use Rattle.circuit.specs.Lines.{overall, depths};
 ghost use Rattle.circuit.specs.Stored.{gateOf, outOf};
 ghost use Rattle.text.specs.Putting.{Put, PutFree};
-ghost use Rattle.listing.specs.Printed.{lineName, joined, turned, negated, formula, gateLine, outputLine, linesTo, countsText, refusedText, countsSize, linesSize, refusedSize, linesIn, depthIn};
+ghost use Rattle.listing.specs.Printed.{lineName, joined, turned, negated, formula, gateLine, outputLine, linesTo, countsText, refusedText, countsSize, linesSize, refusedSize, linesIn};
 use circuit::Circuit;
 use circuit::Refusal;
-use circuit::gate::second_read;
 use circuit::reader::is_shape;
 use circuit::refusal_no;
 use circuit::wide;
@@ -202,51 +199,4 @@ pub fn put_refused(room: &mut [u8], why: Refusal) -> usize
     }
     let next = put_labelled(room, 0, b"refused ", refusal_no(why));
     text::put(room, next, b"\n")
-}
-
-// One more than the deeper of two depths.
-fn above(a: u8, b: u8) -> u8
-    requires { ⌜ (a < 255) × (b < 255) ⌝ }
-    ensures { λ r. ⌜ r ≡ max a b + 1 ⌝ }
-{
-    if a < b { b + 1 } else { a + 1 }
-}
-
-// The greater of two depths.
-fn greater(a: u8, b: u8) -> u8
-    ensures { λ r. ⌜ r ≡ max a b ⌝ }
-{
-    if a < b { b } else { a }
-}
-
-// The greatest depth of a line. A line that is not there counts as 0, and no depth passes the number of gates.
-fn deepest(c: Circuit) -> u8
-    requires { ⌜ (c .n ≤ 8) × (c .g ≤ 248) ⌝ }
-    ensures { λ r. ⌜ r ≡ overall (depths (c .n) (gateOf c) (c .g)) ⌝ }
-{
-    let n = c.n;
-    let g = c.g;
-    let mut deep = [0u8; 256];
-    let mut most: u8 = 0;
-    let mut k: usize = 0;
-    while k < g {
-        let left = c.left[k];
-        let first = wide(left);
-        let second = wide(second_read(c.kinds[k], left, c.right[k]));
-        let depth = above(deep[first], deep[second]);
-        deep[n + k] = depth;
-        most = greater(most, depth);
-        k += 1;
-    }
-    most
-}
-
-// The circuit's depth: the greatest over all its lines.
-pub fn depth_of(c: Circuit) -> u8
-    ensures { λ r. ⌜ r ≡ depthIn c ⌝ }
-{
-    let n = c.n;
-    let m = c.m;
-    let g = c.g;
-    if is_shape(n, m, g) { deepest(c) } else { 0 }
 }

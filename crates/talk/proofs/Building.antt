@@ -12,8 +12,9 @@ use Rattle.circuit.specs.declared.Refusal.the-variants.{NoRoom}
 use Rattle.circuit.specs.declared.Writing.{Writing}
 use Rattle.circuit.specs.declared.Writing.the-variants.{Written, NotWritten}
 use Rattle.circuit.specs.Stored.{stored}
+use Rattle.circuit.specs.Writing.{intoRoom}
 use Rattle.circuit.proofs.Accept.{shape-is}
-use Rattle.builder.specs.Call.{built, refusal, roomAnswer, buildAnswer, Builds}
+use Rattle.builder.specs.Call.{built, refusal, buildAnswer, Builds}
 use Rattle.builder.proofs.Refusals.{accepted}
 use Rattle.builder.proofs.Promise.{built-shaped}
 use Rattle.talk.specs.Saying.{storedMost, BuildsFirst}
@@ -36,7 +37,7 @@ module _ (n : ℕ) (ts : List ℕ) (D : ℕ) where
   build-least : (room : ℕ) → buildAnswer n ts D (min room storedMost) ≡ buildAnswer n ts D room
   unfolding buildAnswer
   build-least room = by (refusal n ts D) refl where
-    by : (a : Answer) → refusal n ts D ≡ a → roomAnswer a size (min room storedMost) ≡ roomAnswer a size room
+    by : (a : Answer) → refusal n ts D ≡ a → intoRoom a size (min room storedMost) ≡ intoRoom a size room
     by Done e = ap (λ (t : Bool). cond t (Written size) (NotWritten NoRoom)) (leb-least size room (short e))
     by (Refused w) e = refl
 
@@ -44,7 +45,7 @@ module _ (n : ℕ) (ts : List ℕ) (D : ℕ) where
   build-sized : (room : ℕ) → Sized (buildAnswer n ts D room) size
   unfolding buildAnswer
   build-sized room = by (refusal n ts D) refl where
-    by : (a : Answer) → refusal n ts D ≡ a → Sized (roomAnswer a size room) size
+    by : (a : Answer) → refusal n ts D ≡ a → Sized (intoRoom a size room) size
     by Done e = cond-sized (leb size room) size NoRoom (short e)
     by (Refused w) e = λ k q. let z : _≡_ {A = ℕ} 0 1 = cc in absurd (omega arith)
 

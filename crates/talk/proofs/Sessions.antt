@@ -15,9 +15,8 @@ use Rattle.script.specs.Order.{Order, silent, unreadable, askNew, askOpenMatrix
 use Rattle.script.specs.Reading.{Rest, onValue, number, limit, isHex, hex, matrixName, tableName, kind, nothing as noMore, Table, byWord, askOpen, openIn, gateIn, outputIn, entryIn, buildIn, distanceIn, bytesCalls, editCalls, calls, orderIn}
 use Rattle.bench.specs.declared.Bench.{Bench}
 use Rattle.bench.specs.Target.{matrix, table}
-use Rattle.bench.specs.State.{Present, nothing, SoundPresent}
+use Rattle.bench.specs.State.{Present, nothing, SoundPresent, limits}
 use Rattle.bench.specs.Held.{emptyBench, Stands}
-use Rattle.bench.specs.Parts.{limits}
 use Rattle.bench.specs.Run.{ByteLimits}
 use Rattle.bench.specs.Run.Call.{opening, replacing, pointing, changing, limiting}
 use Rattle.bench.proofs.SoundLaws.{sound-call}

@@ -11,9 +11,8 @@ use Rattle.circuit.proofs.Back.{listed-held}
 use Rattle.bench.specs.declared.Bench.{Bench}
 use Rattle.bench.specs.declared.Reported.{Reported}
 use Rattle.bench.specs.State.{State, Sound, Present, nothing, present, reportOf}
-use Rattle.bench.specs.Held.{Stands}
+use Rattle.bench.specs.Held.{Stands, circuitOf}
 use Rattle.bench.specs.Calls.{reported}
-use Rattle.bench.specs.Parts.{circuitOf}
 use Rattle.bench.proofs.Standing.{full-standing}
 use Rattle.bench.proofs.StoreLaws.{circuit-of-full}
 use Rattle.listing.specs.Printed.{linesText, linesIn}

@@ -5,11 +5,10 @@ use mathlib.Core.List.{List}
 use Prim.Native.Nat.{ℕ}
 use Rattle.circuit.specs.declared.Answer.{Answer}
 use Rattle.bench.specs.declared.Bench.{Bench}
-use Rattle.bench.specs.Target.{matrix, table}
-use Rattle.bench.specs.State.{Present}
+use Rattle.bench.specs.Target.{matrix, table, targetOf}
+use Rattle.bench.specs.State.{Present, limits}
 use Rattle.bench.specs.Held.{benchOf, Stands}
 use Rattle.bench.specs.Calls.{openAnswer, OpenPromise}
-use Rattle.bench.specs.Parts.{targetOf, limits}
 use Rattle.script.specs.Reading.{askOpen}
 use Rattle.script.specs.Order.{Order}
 use Rattle.talk.specs.declared.Told.{Told}

@@ -9,10 +9,9 @@ use Rattle.distance.specs.Query.{answerOf}
 use Rattle.builder.specs.Call.{built, buildAnswer}
 use Rattle.bench.specs.declared.Bench.{Bench}
 use Rattle.bench.specs.Target.{matrix, table}
-use Rattle.bench.specs.State.{Present, nothing}
+use Rattle.bench.specs.State.{Present, nothing, limits}
 use Rattle.bench.specs.Held.{benchOf, Stands}
 use Rattle.bench.specs.Calls.{afterOpen, afterGate, afterOutput, afterEntry, afterLimits, openAnswer, gateEdit, outputEditAnswer, entryEditAnswer, limitsAnswer, noRework, reported, storeAnswer, storedOf}
-use Rattle.bench.specs.Parts.{limits}
 use Rattle.script.specs.Order.{Order, silent, unreadable, askNew, askOpenMatrix, askOpenTable, askReport, askGate, askOutput, askEntry, askLimits, askStore, askHeld, askShow, askBuild, askDistance}
 use Rattle.script.specs.Reading.{orderIn}
 use Rattle.talk.specs.declared.Told.{Told}

@@ -1,7 +1,7 @@
 -- `plan` meets its contract: a refusal is what the look found, and nothing after it refuses.
 use mathlib.Core.Path.{sym, ap, _∙_}
 use Rattle.circuit.specs.declared.Answer.{Answer}
-use Rattle.circuit.specs.declared.Answer.the-variants.{Done}
+use Rattle.circuit.specs.declared.Answer.the-variants.{Done, Refused}
 use Rattle.circuit.specs.declared.Circuit.{Circuit}
 use Rattle.builder.specs.declared.Planned.{Planned}
 use Rattle.builder.specs.Call.{built, planned, planOf}
@@ -15,6 +15,9 @@ look-requires c κs = search needs
 enum-known-answer : tie.Need-enum-known-answer
 enum-known-answer c = search needs
 
+no-circuit-requires : tie.Need-no-circuit-requires
+no-circuit-requires c κs = search needs
+
 enum-told : tie.Need-enum-told
 enum-told c = search needs
 
@@ -23,7 +26,12 @@ program-requires c κs = sym (c .before .before .look .ensures) ∙ c .enum-told
 
 returns : tie.Need-returns
 unfolding planOf
-returns c = ap (λ (x : Answer). planned x (built (c .before .before .before .before .before .args .n) (c .before .before .before .before .before .args .rows .now) (c .before .before .before .before .before .args .d))) (sym (sym (c .before .before .before .look .ensures) ∙ c .before .answer .given .1))
+returns c =
+    let t = c .before .before in
+    let k = t .before .before in
+    let a = k .before .before .args in
+    let f : Circuit → Planned = λ x. record { circuit = x; answer = Refused (t .answer .given .0 .0) } in
+    ap f (c .no-circuit .ensures) ∙ ap (λ (x : Answer). planned x (built (a .n) (a .rows .now) (a .d))) (sym (sym (k .look .ensures) ∙ t .answer .given .1))
 
 returns-2 : tie.Need-returns-2
 unfolding planOf
@@ -34,4 +42,4 @@ returns-2 c =
 pub plan-spec : {M : Type 1} → statement M
 plan-spec =
     tie.close
-    (tie.spec look-requires enum-known-answer enum-told program-requires returns returns-2)
+    (tie.spec look-requires enum-known-answer no-circuit-requires enum-told program-requires returns returns-2)

@@ -1,6 +1,6 @@
 -- `coded::open_matrix` meets its contract. Assumes nothing.
 use Rattle.bench.specs.Target.{matrix}
-use Rattle.bench.specs.Parts.{limits}
+use Rattle.bench.specs.State.{limits}
 use Rattle.coded.proofs.Coding.{open-coded}
 use borrow.Author.Needs.{needs}
 use Rattle.coded.proofs.open_matrix.Statement.{statement}

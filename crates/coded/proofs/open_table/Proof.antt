@@ -1,6 +1,6 @@
 -- `coded::open_table` meets its contract. Assumes nothing.
 use Rattle.bench.specs.Target.{table}
-use Rattle.bench.specs.Parts.{limits}
+use Rattle.bench.specs.State.{limits}
 use Rattle.coded.proofs.Coding.{open-coded}
 use borrow.Author.Needs.{needs}
 use Rattle.coded.proofs.open_table.Statement.{statement}

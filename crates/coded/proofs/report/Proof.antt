@@ -1,6 +1,5 @@
 -- `coded::report` meets its contract. Assumes nothing.
 use mathlib.Core.Path.{_∙_, ap, sym}
-use Prim.Native.Nat.{ℕ}
 use Rattle.coded.specs.Coded.{refusedCode, reportedCode}
 use borrow.Author.Needs.{needs}
 use Rattle.coded.proofs.report.Statement.{statement}

@@ -1,7 +1,6 @@
 -- `coded::set_limits` meets its contract. Assumes nothing.
-use Rattle.bench.specs.State.{Present}
+use Rattle.bench.specs.State.{Present, limits}
 use Rattle.bench.specs.Calls.{noRework, limitsAnswer, afterLimits}
-use Rattle.bench.specs.Parts.{limits}
 use Rattle.coded.proofs.Coding.{edit-coded}
 use borrow.Author.Needs.{needs}
 use Rattle.coded.proofs.set_limits.Statement.{statement}

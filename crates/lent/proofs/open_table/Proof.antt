@@ -1,7 +1,7 @@
 -- `lent::open_table` meets its contract: it does with the bench that is lent what the form by value does. Assumes nothing.
 use Rattle.bench.specs.Calls.{OpenPromise}
 use Rattle.bench.specs.Target.{table}
-use Rattle.bench.specs.Parts.{limits}
+use Rattle.bench.specs.State.{limits}
 use mir.Syntax.{w8}
 use denote.Builtin.{u8}
 use Rattle.lending.proofs.Further.{none, number, slice}

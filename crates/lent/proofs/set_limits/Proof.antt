@@ -1,6 +1,6 @@
 -- `lent::set_limits` meets its contract: it does with the bench that is lent what the form by value does. Assumes nothing.
 use Rattle.bench.specs.Calls.{LimitsPromise}
-use Rattle.bench.specs.Parts.{limits}
+use Rattle.bench.specs.State.{limits}
 use Rattle.lending.proofs.Further.{bytes-of}
 use Rattle.lending.proofs.Edits.{edited-by}
 use Rattle.lent.proofs.OnBench.{edited}

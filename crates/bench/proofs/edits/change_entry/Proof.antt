@@ -1,13 +1,12 @@
 -- `bench::edits::change_entry` meets its contract. Assumes nothing.
 use mathlib.Core.Path.{_≡_, _∙_, sym, ap}
-use mathlib.Core.List.{List}
 use borrow.Author.Needs.{needs}
-use Prim.Native.Nat.{_%_}
+use Prim.Native.Nat.{ℕ}
 use lib.ListN.{set}
 use Rattle.circuit.specs.declared.Answer.the-variants.{Done}
-use Rattle.circuit.specs.declared.Words.{Words}
+use Rattle.bench.specs.declared.Bench.{Bench}
 use Rattle.bench.specs.Parts.{unreworked}
-use Rattle.bench.proofs.EntryLaws.{EntryFits, entry-fits, entryLookOn, entry-refused, entry-done, retargeted}
+use Rattle.bench.proofs.EntryLaws.{EntryFits, entry-fits, entryLookOn, entry-refused, entry-done, retargeted, aimed}
 use Rattle.bench.proofs.edits.change_entry.Statement.{statement}
 use Rattle.bench.proofs.edits.change_entry.Tie as tie
 
@@ -23,8 +22,8 @@ refused-requires c κs = search needs
 enum-told : tie.Need-enum-told
 enum-told c = search needs
 
-cast-c : tie.Need-cast-c
-cast-c c = search needs
+low-byte-requires : tie.Need-low-byte-requires
+low-byte-requires c κs = search needs
 
 -- what was looked at showed
 looked : (c : tie.After-enum-told) → let a = c .before .before .before .args in entryLookOn (a .i) (a .value) (a .bench) ≡ Done
@@ -34,10 +33,10 @@ ok : (c : tie.After-enum-told) → let a = c .before .before .before .args in En
 ok c = entry-fits _ _ _ _ _ _ _ (looked c)
 
 element-write-c : tie.Need-element-write-c
-element-write-c c = ok c .there
+element-write-c c = ok (c .before) .there
 
 wanted-words-requires : tie.Need-wanted-words-requires
-wanted-words-requires c κs = ok (c .before .before) .shape .m32
+wanted-words-requires c κs = ok (c .before .before .before) .shape .m32
 
 without-rework-requires : tie.Need-without-rework-requires
 without-rework-requires c κs = search needs
@@ -51,11 +50,14 @@ returns c =
 
 returns-2 : tie.Need-returns-2
 returns-2 c =
-    let t = c .before .before .before .before in
+    let v = c .before .before .before .before in
+    let t = v .before in
     let a = t .before .before .before .args in
-    let bytes = set (a .bench .target) (a .i) (a .value % 256) in
     entry-done (a .i) (a .value) (a .bench) _ (looked t)
-    (c .without-rework .ensures ∙ ap (λ (w : List Words). unreworked (retargeted (a .bench) bytes w) Done) (c .before .wanted-words .ensures))
+    (c .without-rework .ensures
+    ∙ ap (λ (z : Bench). unreworked z Done)
+    (ap (retargeted (a .bench) (set (a .bench .target) (a .i) (v .low-byte .result))) (c .before .wanted-words .ensures)
+    ∙ ap (λ (x : ℕ). aimed (a .bench) (set (a .bench .target) (a .i) x)) (v .low-byte .ensures)))
 
 pub change-entry-spec : {M : Type 1} → statement M
 change-entry-spec =
@@ -65,7 +67,7 @@ change-entry-spec =
     enum-known-look
     refused-requires
     enum-told
-    cast-c
+    low-byte-requires
     element-write-c
     wanted-words-requires
     without-rework-requires

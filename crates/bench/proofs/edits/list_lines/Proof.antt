@@ -1,8 +1,9 @@
 -- `list_lines`: the loop keeps `Listed`.
 use borrow.Author.Needs.{needs}
-use mathlib.Core.Path.{_≡_}
+use mathlib.Core.Path.{_≡_, _∙_}
 use mathlib.Core.Logic.{⊎-elim}
 use Prim.Native.Nat.{_-_}
+use native.Mathlib.Nat.{mod-eq-of-lt}
 use lib.ListN.{length}
 use Rattle.bench.proofs.Places.{Listed, list-start, list-hit, list-miss, list-done, moved-list}
 use Rattle.bench.proofs.edits.list_lines.Statement.{statement}
@@ -23,8 +24,8 @@ loop-holds c = list-start (c .args .t1)
 array-read-if1 : tie.Need-array-read-if1 Inv-loop μ-loop
 array-read-if1 c = search needs
 
-byte-requires : tie.Need-byte-requires Inv-loop μ-loop
-byte-requires c κs = search needs
+low-byte-requires : tie.Need-low-byte-requires Inv-loop μ-loop
+low-byte-requires c κs = search needs
 
 array-write-lines : tie.Need-array-write-lines Inv-loop μ-loop
 array-write-lines c = search needs
@@ -45,7 +46,7 @@ loop-again c =
     let s = h .before in
     ⊎-elim
     (λ w. moved-list (w .2) (w .3)
-    (list-hit (s .args .t1) (size s) (h .loop .lines) (h .loop .count) (h .loop .i) (t .loop-test .taken) (h .loop .inv) (w .1 .result) (w .1 .ensures) (w .0 .taken)))
+    (list-hit (s .args .t1) (size s) (h .loop .lines) (h .loop .count) (h .loop .i) (t .loop-test .taken) (h .loop .inv) (w .1 .result) (w .1 .ensures ∙ mod-eq-of-lt (t .loop-test .taken)) (w .0 .taken)))
     (λ w. moved-list (w .1) (w .2)
     (list-miss (s .args .t1) (size s) (h .loop .lines) (h .loop .count) (h .loop .i) (t .loop-test .taken) (h .loop .inv) (w .0 .left)))
     (c .if1 .came)
@@ -63,7 +64,7 @@ list-lines-spec =
     μ-loop
     loop-holds
     array-read-if1
-    byte-requires
+    low-byte-requires
     array-write-lines
     add-count
     add-i

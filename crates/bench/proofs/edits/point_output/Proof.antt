@@ -1,6 +1,7 @@
 -- `bench::edits::point_output` meets its contract. Assumes nothing.
 use mathlib.Core.Path.{_≡_, _∙_, sym, ap}
 use Prim.Native.Nat.{ℕ}
+use native.Mathlib.Nat.{mod-eq-of-lt}
 use native.Mathlib.Omega.{arith}
 use lib.ListN.{set}
 use Rattle.circuit.specs.declared.Answer.the-variants.{Done}
@@ -29,8 +30,8 @@ looked c = sym (c .before .before .look-at-output .ensures) ∙ c .enum-told .gi
 ok : (c : tie.After-enum-told) → let a = c .before .before .before .args in OutputFits (a .bench .n) (a .bench .m) (a .bench .g) (a .j) (a .line)
 ok c = output-fits _ _ _ _ _ _ (looked c)
 
-byte-requires : tie.Need-byte-requires
-byte-requires c κs = omega (arith, ok c, ok c .shape)
+low-byte-requires : tie.Need-low-byte-requires
+low-byte-requires c κs = search needs
 
 element-write-c : tie.Need-element-write-c
 element-write-c c = omega (arith, ok (c .before), ok (c .before) .shape)
@@ -50,7 +51,9 @@ returns-2 c =
     let t = c .before .before in
     let a = t .before .before .before .args in
     output-done (a .j) (a .line) (a .bench) _ (looked t)
-    (c .without-rework .ensures ∙ ap (λ (x : ℕ). unreworked (pointing (a .bench) (set (a .bench .outputs) (a .j) x)) Done) (c .before .byte .ensures))
+    (c .without-rework .ensures
+    ∙ ap (λ (x : ℕ). unreworked (pointing (a .bench) (set (a .bench .outputs) (a .j) x)) Done)
+    (c .before .low-byte .ensures ∙ mod-eq-of-lt (omega (arith, ok t, ok t .shape))))
 
 pub point-output-spec : {M : Type 1} → statement M
 point-output-spec =
@@ -60,7 +63,7 @@ point-output-spec =
     enum-known-look
     refused-requires
     enum-told
-    byte-requires
+    low-byte-requires
     element-write-c
     without-rework-requires
     returns

@@ -1,5 +1,6 @@
 -- `replace_gate`: on a right bench the answer is the edit's, and what is left is the bench of the state after it.
 use borrow.Author.Needs.{needs}
+use native.Mathlib.Nat.{mod-eq-of-lt}
 use native.Mathlib.Omega.{arith}
 use mathlib.Core.Path.{subst, ap, _∙_}
 use Rattle.bench.specs.declared.Bench.{Bench}
@@ -28,20 +29,20 @@ ok c =
     let l = c .before .before in
     look-fits (l .before .args .bench .«is_open») _ _ _ _ _ _ _ _ _ (l .look-at-gate .ensures) (c .enum-told .given .1)
 
-byte-requires : tie.Need-byte-requires
-byte-requires c κs = omega (arith, ok c)
+low-byte-requires : tie.Need-low-byte-requires
+low-byte-requires c κs = search needs
 
 element-write-c : tie.Need-element-write-c
 element-write-c c = omega (arith, ok (c .before))
 
-byte-requires-2 : tie.Need-byte-requires-2
-byte-requires-2 c κs = omega (arith, ok (c .before))
+low-byte-requires-2 : tie.Need-low-byte-requires-2
+low-byte-requires-2 c κs = search needs
 
 element-write-c-2 : tie.Need-element-write-c-2
 element-write-c-2 c = omega (arith, ok (c .before .before))
 
-byte-requires-3 : tie.Need-byte-requires-3
-byte-requires-3 c κs = omega (arith, ok (c .before .before))
+low-byte-requires-3 : tie.Need-low-byte-requires-3
+low-byte-requires-3 c κs = search needs
 
 element-write-c-3 : tie.Need-element-write-c-3
 element-write-c-3 c = omega (arith, ok (c .before .before .before))
@@ -69,9 +70,9 @@ returns-2 c = λ p st.
     let t = b1 .before in
     let l = t .before .before in
     let a = l .before .args in
-    let e = b1 .byte .ensures in
-    let f = b2 .byte2 .ensures in
-    let g = b3 .byte3 .ensures in
+    let e = b1 .low-byte .ensures ∙ mod-eq-of-lt (omega (arith, ok t)) in
+    let f = b2 .low-byte2 .ensures ∙ mod-eq-of-lt (omega (arith, ok t)) in
+    let g = b3 .low-byte3 .ensures ∙ mod-eq-of-lt (omega (arith, ok t)) in
     let r = done-edit (a .bench) p st (a .k) (a .kind) (a .a) (a .b)
     (look-answers (a .bench) p st (a .k) (a .kind) (a .a) (a .b) _ _ (l .look-at-gate .ensures) (t .enum-told .given .1))
     (w .rework .result .bench) (w .rework .result .marks)
@@ -86,11 +87,11 @@ replace-gate-spec =
     enum-known-look
     refused-requires
     enum-told
-    byte-requires
+    low-byte-requires
     element-write-c
-    byte-requires-2
+    low-byte-requires-2
     element-write-c-2
-    byte-requires-3
+    low-byte-requires-3
     element-write-c-3
     rework-requires
     list-lines-requires

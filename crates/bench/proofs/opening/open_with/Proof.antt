@@ -3,7 +3,8 @@ use mathlib.Core.Path.{_∙_, sym}
 use mathlib.Core.Bool.{true, false}
 use borrow.Author.Needs.{needs}
 use Rattle.circuit.proofs.Accept.{Shaped}
-use Rattle.bench.specs.Parts.{targetOf, limits}
+use Rattle.bench.specs.Target.{targetOf}
+use Rattle.bench.specs.State.{limits}
 use Rattle.bench.proofs.OpenLaws.{read-shaped, open-refused, open-done, open-unread, open-read, open-short, open-placed}
 use Rattle.bench.proofs.opening.open_with.Statement.{statement}
 use Rattle.bench.proofs.opening.open_with.Tie as tie

@@ -3,7 +3,7 @@ use borrow.Author.Needs.{needs}
 use mathlib.Core.Path.{_∙_, sym, ap}
 use mathlib.Core.Bool.{Bool}
 use Rattle.bench.specs.Held.{wantedWords}
-use Rattle.bench.specs.Parts.{targetOf}
+use Rattle.bench.specs.Target.{targetOf}
 use Rattle.bench.proofs.targets.wanted_by.Statement.{statement}
 use Rattle.bench.proofs.targets.wanted_by.Tie as tie
 

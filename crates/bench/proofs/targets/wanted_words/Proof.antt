@@ -10,7 +10,7 @@ use Rattle.circuit.specs.declared.Words.{Words}
 use Rattle.circuit.specs.Gate.{noWords}
 use Rattle.circuit.specs.Lines.{upto}
 use Rattle.bench.specs.Held.{padded, wantedWords}
-use Rattle.bench.specs.Parts.{targetOf}
+use Rattle.bench.specs.Target.{targetOf}
 use Rattle.bench.proofs.Packing.{upto-put}
 use Rattle.bench.proofs.targets.wanted_words.Statement.{statement}
 use Rattle.bench.proofs.targets.wanted_words.Tie as tie

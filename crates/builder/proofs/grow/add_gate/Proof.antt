@@ -21,14 +21,14 @@ array-read-m c = omega (arith, one (c .before .before .before .before .before .b
 array-read-m-2 : tie.Need-array-read-m-2
 array-read-m-2 c = omega (arith, two (c .before .before .before .before .before .before .before), c .before .before .before .before .before .before .before .pre .0 .within)
 
-array-read-above : tie.Need-array-read-above
-array-read-above c = omega (arith, one (c .before .before .before .before .before .before .before), c .before .before .before .before .before .before .before .pre .0 .within)
+array-read-deeper : tie.Need-array-read-deeper
+array-read-deeper c = omega (arith, one (c .before .before .before .before .before .before .before), c .before .before .before .before .before .before .before .pre .0 .within)
 
-array-read-above-2 : tie.Need-array-read-above-2
-array-read-above-2 c = omega (arith, two (c .before .before .before .before .before .before .before), c .before .before .before .before .before .before .before .pre .0 .within)
+array-read-deeper-2 : tie.Need-array-read-deeper-2
+array-read-deeper-2 c = omega (arith, two (c .before .before .before .before .before .before .before), c .before .before .before .before .before .before .before .pre .0 .within)
 
-above-requires : tie.Need-above-requires
-above-requires c κs = (c .before .before .before .before .before .before .before .pre .0 .shallow (c .before .before .before .before .before .before .before .args .a), c .before .before .before .before .before .before .before .pre .0 .shallow (c .before .before .before .before .before .before .before .args .b))
+deeper-requires : tie.Need-deeper-requires
+deeper-requires c κs = search needs
 
 cost-requires : tie.Need-cost-requires
 cost-requires c κs = search needs
@@ -40,13 +40,13 @@ slice-aggregate-lowered : tie.Need-slice-aggregate-lowered
 slice-aggregate-lowered c = sym (length-take-le _ _ (omega (arith, c .before .before .before .before .before .before .before .before .before .before .pre .0 .few, gaps-wide (c .before .before .before .before .before .before .before .before .before .before .args .rows .now) (c .before .before .before .before .before .before .before .before .before .before .args .limits .now) (c .before .before .before .before .before .before .before .before .before .before .args .s) (c .before .before .before .before .before .before .before .before .before .before .pre .0))))
 
 lowered-requires : tie.Need-lowered-requires
-lowered-requires c κs = lowering (c .before .before .before .before .before .before .before .before .before .before .before .args .rows .now) (c .before .before .before .before .before .before .before .before .before .before .before .args .limits .now) (c .before .before .before .before .before .before .before .before .before .before .before .args .s) (c .before .before .before .before .before .before .before .before .before .before .before .pre .0) (c .before .before .before .before .before .before .before .before .before .before .before .args .h .now) (c .before .before .before .before .before .before .before .before .before .before .before .pre .1 .0) (c .before .before .before .before .before .before .before .before .before .before .before .args .a) (c .before .before .before .before .before .before .before .before .before .before .before .args .b) (c .before .before .before .before .before .before .before .before .before .before .before .pre .1 .1 .0) (c .before .before .before .above .result) (c .before .before .cost .result) (c .before .before .before .above .ensures) (c .before .before .cost .ensures)
+lowered-requires c κs = lowering (c .before .before .before .before .before .before .before .before .before .before .before .args .rows .now) (c .before .before .before .before .before .before .before .before .before .before .before .args .limits .now) (c .before .before .before .before .before .before .before .before .before .before .before .args .s) (c .before .before .before .before .before .before .before .before .before .before .before .pre .0) (c .before .before .before .before .before .before .before .before .before .before .before .args .h .now) (c .before .before .before .before .before .before .before .before .before .before .before .pre .1 .0) (c .before .before .before .before .before .before .before .before .before .before .before .args .a) (c .before .before .before .before .before .before .before .before .before .before .before .args .b) (c .before .before .before .before .before .before .before .before .before .before .before .pre .1 .1 .0) (c .before .before .before .deeper .result) (c .before .before .cost .result) (c .before .before .before .deeper .ensures) (c .before .before .cost .ensures)
 
 array-share-prefix-gaps : tie.Need-array-share-prefix-gaps
-array-share-prefix-gaps c = omega (arith, c .before .before .before .before .before .before .before .before .before .before .before .before .pre .0 .few, next-wide (c .before .before .before .before .before .before .before .before .before .before .before .before .args .rows .now) (c .before .before .before .before .before .before .before .before .before .before .before .before .args .limits .now) (c .before .before .before .before .before .before .before .before .before .before .before .before .args .s) (c .before .before .before .before .before .before .before .before .before .before .before .before .pre .0) (c .before .before .before .before .before .before .before .before .before .before .before .before .args .h .now) (c .before .before .before .before .before .before .before .before .before .before .before .before .pre .1 .0) (c .before .before .before .before .before .before .before .before .before .before .before .before .args .a) (c .before .before .before .before .before .before .before .before .before .before .before .before .args .b) (c .before .before .before .before .before .before .before .before .before .before .before .before .pre .1 .1 .0) (c .before .before .before .before .above .result) (c .before .before .before .cost .result) (c .before .before .before .before .above .ensures) (c .before .before .before .cost .ensures) (λ k. c .before .before .before .before .before .before .before .before .before .before .before .shared-slice-known .given k .fits) (c .lowered .result) (c .lowered .ensures))
+array-share-prefix-gaps c = omega (arith, c .before .before .before .before .before .before .before .before .before .before .before .before .pre .0 .few, next-wide (c .before .before .before .before .before .before .before .before .before .before .before .before .args .rows .now) (c .before .before .before .before .before .before .before .before .before .before .before .before .args .limits .now) (c .before .before .before .before .before .before .before .before .before .before .before .before .args .s) (c .before .before .before .before .before .before .before .before .before .before .before .before .pre .0) (c .before .before .before .before .before .before .before .before .before .before .before .before .args .h .now) (c .before .before .before .before .before .before .before .before .before .before .before .before .pre .1 .0) (c .before .before .before .before .before .before .before .before .before .before .before .before .args .a) (c .before .before .before .before .before .before .before .before .before .before .before .before .args .b) (c .before .before .before .before .before .before .before .before .before .before .before .before .pre .1 .1 .0) (c .before .before .before .before .deeper .result) (c .before .before .before .cost .result) (c .before .before .before .before .deeper .ensures) (c .before .before .before .cost .ensures) (λ k. c .before .before .before .before .before .before .before .before .before .before .before .shared-slice-known .given k .fits) (c .lowered .result) (c .lowered .ensures))
 
 slice-aggregate-greatest-of : tie.Need-slice-aggregate-greatest-of
-slice-aggregate-greatest-of c = sym (length-take-le _ _ (omega (arith, c .before .before .before .before .before .before .before .before .before .before .before .before .before .pre .0 .few, next-wide (c .before .before .before .before .before .before .before .before .before .before .before .before .before .args .rows .now) (c .before .before .before .before .before .before .before .before .before .before .before .before .before .args .limits .now) (c .before .before .before .before .before .before .before .before .before .before .before .before .before .args .s) (c .before .before .before .before .before .before .before .before .before .before .before .before .before .pre .0) (c .before .before .before .before .before .before .before .before .before .before .before .before .before .args .h .now) (c .before .before .before .before .before .before .before .before .before .before .before .before .before .pre .1 .0) (c .before .before .before .before .before .before .before .before .before .before .before .before .before .args .a) (c .before .before .before .before .before .before .before .before .before .before .before .before .before .args .b) (c .before .before .before .before .before .before .before .before .before .before .before .before .before .pre .1 .1 .0) (c .before .before .before .before .before .above .result) (c .before .before .before .before .cost .result) (c .before .before .before .before .before .above .ensures) (c .before .before .before .before .cost .ensures) (λ k. c .before .before .before .before .before .before .before .before .before .before .before .before .shared-slice-known .given k .fits) (c .before .lowered .result) (c .before .lowered .ensures))))
+slice-aggregate-greatest-of c = sym (length-take-le _ _ (omega (arith, c .before .before .before .before .before .before .before .before .before .before .before .before .before .pre .0 .few, next-wide (c .before .before .before .before .before .before .before .before .before .before .before .before .before .args .rows .now) (c .before .before .before .before .before .before .before .before .before .before .before .before .before .args .limits .now) (c .before .before .before .before .before .before .before .before .before .before .before .before .before .args .s) (c .before .before .before .before .before .before .before .before .before .before .before .before .before .pre .0) (c .before .before .before .before .before .before .before .before .before .before .before .before .before .args .h .now) (c .before .before .before .before .before .before .before .before .before .before .before .before .before .pre .1 .0) (c .before .before .before .before .before .before .before .before .before .before .before .before .before .args .a) (c .before .before .before .before .before .before .before .before .before .before .before .before .before .args .b) (c .before .before .before .before .before .before .before .before .before .before .before .before .before .pre .1 .1 .0) (c .before .before .before .before .before .deeper .result) (c .before .before .before .before .cost .result) (c .before .before .before .before .before .deeper .ensures) (c .before .before .before .before .cost .ensures) (λ k. c .before .before .before .before .before .before .before .before .before .before .before .before .shared-slice-known .given k .fits) (c .before .lowered .result) (c .before .lowered .ensures))))
 
 greatest-of-requires : tie.Need-greatest-of-requires
 greatest-of-requires c κs = search needs
@@ -82,7 +82,7 @@ add-t50 : tie.Need-add-t50
 add-t50 c = search needs
 
 returns : tie.Need-returns
-returns c = stepped (c .before .before .before .before .before .before .before .before .before .before .before .before .before .before .before .before .args .rows .now) (c .before .before .before .before .before .before .before .before .before .before .before .before .before .before .before .before .args .limits .now) (c .before .before .before .before .before .before .before .before .before .before .before .before .before .before .before .before .args .s) (c .before .before .before .before .before .before .before .before .before .before .before .before .before .before .before .before .pre .0) (c .before .before .before .before .before .before .before .before .before .before .before .before .before .before .before .before .args .h .now) (c .before .before .before .before .before .before .before .before .before .before .before .before .before .before .before .before .pre .1 .0) (c .before .before .before .before .before .before .before .before .before .before .before .before .before .before .before .before .args .a) (c .before .before .before .before .before .before .before .before .before .before .before .before .before .before .before .before .args .b) (c .before .before .before .before .before .before .before .before .before .before .before .before .before .before .before .before .pre .1 .1 .0) (c .before .before .before .before .before .before .before .before .above .result) (c .before .before .before .before .before .before .before .cost .result) (c .before .before .before .before .before .before .before .before .above .ensures) (c .before .before .before .before .before .before .before .cost .ensures) (λ k. c .before .before .before .before .before .before .before .before .before .before .before .before .before .before .before .shared-slice-known .given k .fits) (c .before .before .before .before .lowered .result) (c .before .before .before .before .lowered .ensures) (c .before .before .greatest-of .result) (c .before .before .greatest-of .ensures) _ (c .take-in .ensures)
+returns c = stepped (c .before .before .before .before .before .before .before .before .before .before .before .before .before .before .before .before .args .rows .now) (c .before .before .before .before .before .before .before .before .before .before .before .before .before .before .before .before .args .limits .now) (c .before .before .before .before .before .before .before .before .before .before .before .before .before .before .before .before .args .s) (c .before .before .before .before .before .before .before .before .before .before .before .before .before .before .before .before .pre .0) (c .before .before .before .before .before .before .before .before .before .before .before .before .before .before .before .before .args .h .now) (c .before .before .before .before .before .before .before .before .before .before .before .before .before .before .before .before .pre .1 .0) (c .before .before .before .before .before .before .before .before .before .before .before .before .before .before .before .before .args .a) (c .before .before .before .before .before .before .before .before .before .before .before .before .before .before .before .before .args .b) (c .before .before .before .before .before .before .before .before .before .before .before .before .before .before .before .before .pre .1 .1 .0) (c .before .before .before .before .before .before .before .before .deeper .result) (c .before .before .before .before .before .before .before .cost .result) (c .before .before .before .before .before .before .before .before .deeper .ensures) (c .before .before .before .before .before .before .before .cost .ensures) (λ k. c .before .before .before .before .before .before .before .before .before .before .before .before .before .before .before .shared-slice-known .given k .fits) (c .before .before .before .before .lowered .result) (c .before .before .before .before .lowered .ensures) (c .before .before .greatest-of .result) (c .before .before .greatest-of .ensures) _ (c .take-in .ensures)
 
 pub add-gate-spec : {M : Type 1} → statement M
 add-gate-spec =
@@ -90,9 +90,9 @@ add-gate-spec =
     (tie.spec
     array-read-m
     array-read-m-2
-    array-read-above
-    array-read-above-2
-    above-requires
+    array-read-deeper
+    array-read-deeper-2
+    deeper-requires
     cost-requires
     array-share-prefix-old
     slice-aggregate-lowered

@@ -41,14 +41,14 @@ shared-slice-read-if1 c = search needs
 shared-slice-read-if1-2 : tie.Need-shared-slice-read-if1-2 Inv-loop2 μ-loop2 Inv-loop μ-loop
 shared-slice-read-if1-2 c = search needs
 
-shared-slice-read-above : tie.Need-shared-slice-read-above Inv-loop2 μ-loop2 Inv-loop μ-loop
-shared-slice-read-above c = search needs
+shared-slice-read-deeper : tie.Need-shared-slice-read-deeper Inv-loop2 μ-loop2 Inv-loop μ-loop
+shared-slice-read-deeper c = search needs
 
-shared-slice-read-above-2 : tie.Need-shared-slice-read-above-2 Inv-loop2 μ-loop2 Inv-loop μ-loop
-shared-slice-read-above-2 c = search needs
+shared-slice-read-deeper-2 : tie.Need-shared-slice-read-deeper-2 Inv-loop2 μ-loop2 Inv-loop μ-loop
+shared-slice-read-deeper-2 c = search needs
 
-above-requires : tie.Need-above-requires Inv-loop2 μ-loop2 Inv-loop μ-loop
-above-requires c κs = (c .before .before .before .before .before .before .before .before .before .before .before .pre .1 (c .before .before .before .before .before .before .before .before .loop .i), c .before .before .before .before .before .before .before .before .before .before .before .pre .1 (c .before .before .before .before .before .before .loop2 .j))
+deeper-requires : tie.Need-deeper-requires Inv-loop2 μ-loop2 Inv-loop μ-loop
+deeper-requires c κs = search needs
 
 returns : tie.Need-returns Inv-loop2 μ-loop2 Inv-loop μ-loop
 returns c =
@@ -57,7 +57,7 @@ returns c =
     let j = c .before .before .before .before .before .before .before .before .loop2 .j in
     c .before .before .before .before .before .before .before .before .loop2 .inv
     ∙ in-hit (lines (a .masks .now) (a .depths .now)) (row (a .t) (a .limit)) (length (a .masks .now)) i j _ (c .before .before .before .before .before .before .before .loop2-test .taken)
-    (makes-yes (a .masks .now) (a .depths .now) i j (c .before .above .result) (c .before .before .before .before .before .before .before .before .before .before .before .before .before .pre .0) (c .before .above .ensures) (a .t) (a .limit) (c .before .before .before .before .if1 .taken) (c .if2 .taken))
+    (makes-yes (a .masks .now) (a .depths .now) i j (c .before .deeper .result) (c .before .before .before .before .before .before .before .before .before .before .before .before .before .pre .0) (c .before .before .before .before .before .before .before .before .before .before .before .before .before .pre .1) (c .before .deeper .ensures) (a .t) (a .limit) (c .before .before .before .before .if1 .taken) (c .if2 .taken))
 
 add-j-2 : tie.Need-add-j-2 Inv-loop2 μ-loop2 Inv-loop μ-loop
 add-j-2 c = search needs
@@ -72,7 +72,7 @@ loop2-again c =
     let j = c .before .before .before .before .loop2 .j in
     c .before .before .before .before .loop2 .inv
     ∙ in-miss (lines (a .masks .now) (a .depths .now)) (row (a .t) (a .limit)) (length (a .masks .now)) i j _ (c .before .before .before .loop2-test .taken)
-    (⊎-elim (λ w. makes-deep (a .masks .now) (a .depths .now) i j (w .3 .result) (c .before .before .before .before .before .before .before .before .before .pre .0) (w .3 .ensures) (a .t) (a .limit) (w .0 .taken) (w .4 .left))
+    (⊎-elim (λ w. makes-deep (a .masks .now) (a .depths .now) i j (w .3 .result) (c .before .before .before .before .before .before .before .before .before .pre .0) (c .before .before .before .before .before .before .before .before .before .pre .1) (w .3 .ensures) (a .t) (a .limit) (w .0 .taken) (w .4 .left))
     (λ w. makes-other (a .masks .now) (a .depths .now) i j (a .t) (a .limit) (c .before .before .before .before .before .before .before .before .before .pre .0) (w .left)) (c .if1 .came))
 
 add-i : tie.Need-add-i Inv-loop2 μ-loop2 Inv-loop μ-loop
@@ -104,9 +104,9 @@ first-pair-spec =
     loop2-holds
     shared-slice-read-if1
     shared-slice-read-if1-2
-    shared-slice-read-above
-    shared-slice-read-above-2
-    above-requires
+    shared-slice-read-deeper
+    shared-slice-read-deeper-2
+    deeper-requires
     returns
     add-j-2
     loop2-less

@@ -50,16 +50,16 @@ add-j c = search needs
 pairs-holds : tie.Need-pairs-holds Inv-loop2 μ-loop2 Inv-pairs μ-pairs Inv-loop μ-loop
 pairs-holds c = refl
 
-shared-slice-read-above :
-    tie.Need-shared-slice-read-above Inv-loop2 μ-loop2 Inv-pairs μ-pairs Inv-loop μ-loop
-shared-slice-read-above c = search needs
+shared-slice-read-deeper :
+    tie.Need-shared-slice-read-deeper Inv-loop2 μ-loop2 Inv-pairs μ-pairs Inv-loop μ-loop
+shared-slice-read-deeper c = search needs
 
-shared-slice-read-above-2 :
-    tie.Need-shared-slice-read-above-2 Inv-loop2 μ-loop2 Inv-pairs μ-pairs Inv-loop μ-loop
-shared-slice-read-above-2 c = search needs
+shared-slice-read-deeper-2 :
+    tie.Need-shared-slice-read-deeper-2 Inv-loop2 μ-loop2 Inv-pairs μ-pairs Inv-loop μ-loop
+shared-slice-read-deeper-2 c = search needs
 
-above-requires : tie.Need-above-requires Inv-loop2 μ-loop2 Inv-pairs μ-pairs Inv-loop μ-loop
-above-requires c κs = (c .before .before .before .before .before .before .before .before .before .before .before .pre .shallow (c .before .before .before .before .before .loop .i), c .before .before .before .before .before .before .before .before .before .before .before .pre .shallow (c .before .before .before .pairs .j))
+deeper-requires : tie.Need-deeper-requires Inv-loop2 μ-loop2 Inv-pairs μ-pairs Inv-loop μ-loop
+deeper-requires c κs = search needs
 
 add-j-2 : tie.Need-add-j-2 Inv-loop2 μ-loop2 Inv-pairs μ-pairs Inv-loop μ-loop
 add-j-2 c = search needs
@@ -75,7 +75,7 @@ pairs-again c =
     let b = best (u .total) (u .square) (gate (u .a) (u .b)) in
     u .inv
     ∙ along-more (lines (a .masks .now) (a .depths .now)) (goalsWith (lines (a .masks .now) (a .depths .now)) (a .h .now) (a .places .now) (a .rooms .now) (a .lows .now)) (a .top) (length (a .masks .now)) i (u .j) b b (c .before .before .before .before .pairs-test .taken)
-    (pair-deep (a .masks .now) (a .depths .now) (a .places .now) (a .rooms .now) (a .lows .now) (a .h .now) i (u .j) (c .before .above .result) _ (c .before .before .before .before .before .before .before .before .before .before .before .before .before .pre .even) (c .before .above .ensures) refl (a .top) b (c .if1 .taken))
+    (pair-deep (a .masks .now) (a .depths .now) (a .places .now) (a .rooms .now) (a .lows .now) (a .h .now) i (u .j) (c .before .deeper .result) _ (c .before .before .before .before .before .before .before .before .before .before .before .before .before .pre .even) (c .before .before .before .before .before .before .before .before .before .before .before .before .before .pre .shallow) (c .before .deeper .ensures) refl (a .top) b (c .if1 .taken))
 
 shared-slice-read-m :
     tie.Need-shared-slice-read-m Inv-loop2 μ-loop2 Inv-pairs μ-pairs Inv-loop μ-loop
@@ -140,7 +140,7 @@ pairs-again-2 c =
     let b = best (u .total) (u .square) (gate (u .a) (u .b)) in
     u .inv
     ∙ along-more (lines (a .masks .now) (a .depths .now)) (goalsWith (lines (a .masks .now) (a .depths .now)) (a .h .now) (a .places .now) (a .rooms .now) (a .lows .now)) (a .top) (length (a .masks .now)) i (u .j) b b (c .before .before .before .before .before .before .before .before .before .before .before .before .before .pairs-test .taken)
-    (pair-over (a .masks .now) (a .depths .now) (a .places .now) (a .rooms .now) (a .lows .now) (a .h .now) i (u .j) (c .before .before .before .before .before .before .before .before .before .before .above .result) (c .before .before .before .before .before .before .cost .result) (c .before .before .before .before .before .before .before .before .before .before .before .before .before .before .before .before .before .before .before .before .before .before .pre .even) (c .before .before .before .before .before .before .before .before .before .before .above .ensures) (cost-is _ _ (omega (arith, c .before .before .before .before .before .before .before .before .before .if1 .left, c .before .before .before .before .before .before .before .before .before .before .before .before .before .before .before .before .before .before .before .before .before .before .pre .deep)) (c .before .before .before .before .before .before .cost .ensures)) (a .top) b (r .r + 1) (r .sum + c .before .misses .result) (c .before .before .before .before .before .before .before .before .before .if1 .left) (more (c .before)) (c .if2 .taken))
+    (pair-over (a .masks .now) (a .depths .now) (a .places .now) (a .rooms .now) (a .lows .now) (a .h .now) i (u .j) (c .before .before .before .before .before .before .before .before .before .before .deeper .result) (c .before .before .before .before .before .before .cost .result) (c .before .before .before .before .before .before .before .before .before .before .before .before .before .before .before .before .before .before .before .before .before .before .pre .even) (c .before .before .before .before .before .before .before .before .before .before .before .before .before .before .before .before .before .before .before .before .before .before .pre .shallow) (c .before .before .before .before .before .before .before .before .before .before .deeper .ensures) (cost-is _ _ (omega (arith, c .before .before .before .before .before .before .before .before .before .if1 .left, c .before .before .before .before .before .before .before .before .before .before .before .before .before .before .before .before .before .before .before .before .before .before .pre .deep)) (c .before .before .before .before .before .before .cost .ensures)) (a .top) b (r .r + 1) (r .sum + c .before .misses .result) (c .before .before .before .before .before .before .before .before .before .if1 .left) (more (c .before)) (c .if2 .taken))
     ∙ ap (λ (x : ℕ). alongLine (lines (a .masks .now) (a .depths .now)) (goalsWith (lines (a .masks .now) (a .depths .now)) (a .h .now) (a .places .now) (a .rooms .now) (a .lows .now)) (a .top) (length (a .masks .now) - (x + 1)) i (x + 1) b) (sym (r .inv .0))
 
 add-r : tie.Need-add-r Inv-loop2 μ-loop2 Inv-pairs μ-pairs Inv-loop μ-loop
@@ -177,9 +177,9 @@ pairs-again-3 c =
     u .inv
     ∙ along-more (lines (a .masks .now) (a .depths .now)) (goalsWith (lines (a .masks .now) (a .depths .now)) (a .h .now) (a .places .now) (a .rooms .now) (a .lows .now)) (a .top) (length (a .masks .now)) i (u .j) b (best (v .total) (v .square) (gate (v .a) (v .b))) (c .before .before .before .before .before .before .before .before .before .before .before .before .pairs-test .taken)
     (⊎-elim
-    (λ w. pair-done (a .masks .now) (a .depths .now) (a .places .now) (a .rooms .now) (a .lows .now) (a .h .now) i (u .j) (c .before .before .before .before .before .before .before .before .before .above .result) (c .before .before .before .before .before .cost .result) (c .before .before .before .before .before .before .before .before .before .before .before .before .before .before .before .before .before .before .before .before .before .pre .even) (c .before .before .before .before .before .before .before .before .before .above .ensures) (cost-is _ _ (omega (arith, c .before .before .before .before .before .before .before .before .if1 .left, c .before .before .before .before .before .before .before .before .before .before .before .before .before .before .before .before .before .before .before .before .before .pre .deep)) (c .before .before .before .before .before .cost .ensures)) (a .top) b (r .sum) (c .before .before .square-sum .result) true (c .before .before .before .before .before .before .before .before .if1 .left) e (c .before .before .square-sum .ensures) (sym (c .before .improves .ensures) ∙ w .0 .taken)
+    (λ w. pair-done (a .masks .now) (a .depths .now) (a .places .now) (a .rooms .now) (a .lows .now) (a .h .now) i (u .j) (c .before .before .before .before .before .before .before .before .before .deeper .result) (c .before .before .before .before .before .cost .result) (c .before .before .before .before .before .before .before .before .before .before .before .before .before .before .before .before .before .before .before .before .before .pre .even) (c .before .before .before .before .before .before .before .before .before .before .before .before .before .before .before .before .before .before .before .before .before .pre .shallow) (c .before .before .before .before .before .before .before .before .before .deeper .ensures) (cost-is _ _ (omega (arith, c .before .before .before .before .before .before .before .before .if1 .left, c .before .before .before .before .before .before .before .before .before .before .before .before .before .before .before .before .before .before .before .before .before .pre .deep)) (c .before .before .before .before .before .cost .ensures)) (a .top) b (r .sum) (c .before .before .square-sum .result) true (c .before .before .before .before .before .before .before .before .if1 .left) e (c .before .before .square-sum .ensures) (sym (c .before .improves .ensures) ∙ w .0 .taken)
     ∙ sym (best-eq (w .1) (w .2) (w .3) (w .4 ∙ r .inv .0)))
-    (λ w. pair-done (a .masks .now) (a .depths .now) (a .places .now) (a .rooms .now) (a .lows .now) (a .h .now) i (u .j) (c .before .before .before .before .before .before .before .before .before .above .result) (c .before .before .before .before .before .cost .result) (c .before .before .before .before .before .before .before .before .before .before .before .before .before .before .before .before .before .before .before .before .before .pre .even) (c .before .before .before .before .before .before .before .before .before .above .ensures) (cost-is _ _ (omega (arith, c .before .before .before .before .before .before .before .before .if1 .left, c .before .before .before .before .before .before .before .before .before .before .before .before .before .before .before .before .before .before .before .before .before .pre .deep)) (c .before .before .before .before .before .cost .ensures)) (a .top) b (r .sum) (c .before .before .square-sum .result) false (c .before .before .before .before .before .before .before .before .if1 .left) e (c .before .before .square-sum .ensures) (sym (c .before .improves .ensures) ∙ w .0 .left)
+    (λ w. pair-done (a .masks .now) (a .depths .now) (a .places .now) (a .rooms .now) (a .lows .now) (a .h .now) i (u .j) (c .before .before .before .before .before .before .before .before .before .deeper .result) (c .before .before .before .before .before .cost .result) (c .before .before .before .before .before .before .before .before .before .before .before .before .before .before .before .before .before .before .before .before .before .pre .even) (c .before .before .before .before .before .before .before .before .before .before .before .before .before .before .before .before .before .before .before .before .before .pre .shallow) (c .before .before .before .before .before .before .before .before .before .deeper .ensures) (cost-is _ _ (omega (arith, c .before .before .before .before .before .before .before .before .if1 .left, c .before .before .before .before .before .before .before .before .before .before .before .before .before .before .before .before .before .before .before .before .before .pre .deep)) (c .before .before .before .before .before .cost .ensures)) (a .top) b (r .sum) (c .before .before .square-sum .result) false (c .before .before .before .before .before .before .before .before .if1 .left) e (c .before .before .square-sum .ensures) (sym (c .before .improves .ensures) ∙ w .0 .left)
     ∙ sym (best-eq (w .1) (w .2) (w .3) (w .4)))
     (v .came))
     ∙ ap (λ (x : ℕ). alongLine (lines (a .masks .now) (a .depths .now)) (goalsWith (lines (a .masks .now) (a .depths .now)) (a .h .now) (a .places .now) (a .rooms .now) (a .lows .now)) (a .top) (length (a .masks .now) - (x + 1)) i (x + 1) (best (v .total) (v .square) (gate (v .a) (v .b)))) (sym (r .inv .0))
@@ -221,9 +221,9 @@ weigh-spec =
     loop-holds
     add-j
     pairs-holds
-    shared-slice-read-above
-    shared-slice-read-above-2
-    above-requires
+    shared-slice-read-deeper
+    shared-slice-read-deeper-2
+    deeper-requires
     add-j-2
     pairs-less
     pairs-again

@@ -1,7 +1,7 @@
 -- `lent::linked::allpawasi_open_matrix` meets its contract: it does with the bench that is lent what the form by value does. Assumes nothing.
 use Rattle.coded.specs.Coded.{OpenCode}
 use Rattle.bench.specs.Target.{matrix}
-use Rattle.bench.specs.Parts.{limits}
+use Rattle.bench.specs.State.{limits}
 use mir.Syntax.{w8}
 use denote.Builtin.{u8}
 use Rattle.lending.proofs.Further.{none, number, slice}
