@@ -12,18 +12,18 @@ use Rattle.circuit.specs.declared.Answer.the-variants.{Done, Refused}
 use Rattle.circuit.specs.declared.Refusal.{Refusal}
 use Rattle.circuit.specs.declared.Refusal.the-variants.{NotThere, NothingOpen}
 use Rattle.circuit.specs.Gate.{noWords}
-use Rattle.circuit.specs.Lines.{upto}
+use Rattle.circuit.specs.Lines.{upto, padded}
 use Rattle.circuit.specs.Reading.{unless, outAnswer}
 use Rattle.circuit.proofs.Accept.{Shaped, past}
+use Rattle.circuit.proofs.Padding.{padded-set}
 use Rattle.bench.specs.declared.Bench.{Bench}
 use Rattle.bench.specs.declared.Edit.{Edit}
 use Rattle.bench.specs.declared.Edited.{Edited}
 use Rattle.bench.specs.State.{State, Sound, SoundPresent, Present, nothing, present, limits}
-use Rattle.bench.specs.Held.{padded, wantedWords, emptyBench, fullBench, benchOf, Stands}
+use Rattle.bench.specs.Held.{wantedWords, emptyBench, fullBench, benchOf, Stands}
 use Rattle.bench.specs.Calls.{after, noRework, outputEditAnswer, outputEdited, afterOutput, afterLimits, OutputPromise, LimitsPromise}
 use Rattle.bench.specs.Parts.{standing, outputLook, unreworked}
 use Rattle.bench.proofs.Standing.{full-standing, out-below}
-use Rattle.bench.proofs.Padding.{padded-set}
 use Rattle.bench.proofs.Stood.{openOn, standing-shaped, when-open, when-shut}
 
 -- ---- any edit that reworks no line, given by its answer, by what is present after it, and by what the code looks at
@@ -109,7 +109,7 @@ module _ (j line : ℕ) where
   unfolding fullBench
   output-pointed s h =
       let l = sym (length-set (s .circuit .outs) j line) in
-      let o = padded-set 0 32 (s .circuit .outs) line j h in
+      let o = padded-set 32 0 (s .circuit .outs) j line h in
       λ i. record {
         «is_open» = true;
         «is_matrix» = fullBench s .«is_matrix»;
@@ -124,7 +124,7 @@ module _ (j line : ℕ) where
         right = fullBench s .right;
         outputs = o i;
         target = fullBench s .target;
-        wanted = padded (upto (wantedWords (s .target)) (l i)) 32 noWords;
+        wanted = padded 32 noWords (upto (wantedWords (s .target)) (l i));
         depths = fullBench s .depths;
         «and_depths» = fullBench s .«and_depths»;
         values = fullBench s .values;

@@ -15,29 +15,28 @@ use Rattle.circuit.specs.declared.Answer.the-variants.{Done, Refused}
 use Rattle.circuit.specs.declared.Refusal.{Refusal}
 use Rattle.circuit.specs.declared.Refusal.the-variants.{Target as BadTarget, NotThere, NothingOpen}
 use Rattle.circuit.specs.Gate.{bit, noWords}
-use Rattle.circuit.specs.Lines.{Listing, upto}
+use Rattle.circuit.specs.Lines.{Listing, upto, padded}
 use Rattle.circuit.specs.Reading.{unless}
 use Rattle.circuit.proofs.Accept.{Shaped, past, both}
-use Rattle.circuit.proofs.LineLaws.{pad-read}
+use Rattle.circuit.proofs.Padding.{pad-read, padded-set}
 use Rattle.bench.specs.declared.Bench.{Bench}
 use Rattle.bench.specs.declared.Edited.{Edited}
 use Rattle.bench.specs.Target.{Target, matrix, table, isMatrix, bytesOf, rowFits, entryFits, allOf, targetFits, targetOf}
 use Rattle.bench.specs.State.{State, Sound, Present, nothing, present}
-use Rattle.bench.specs.Held.{padded, packed, rowWords, wantedWords, emptyBench, fullBench, benchOf, Stands}
+use Rattle.bench.specs.Held.{packed, rowWords, wantedWords, emptyBench, fullBench, benchOf, Stands}
 use Rattle.bench.specs.Calls.{after, entryAnswer, entryEditAnswer, withEntry, entryEdited, afterEntry, EntryPromise}
 use Rattle.bench.specs.Parts.{valueFits, standing, entryLook, unreworked}
 use Rattle.bench.proofs.Standing.{circuit-fits, full-standing}
 use Rattle.bench.proofs.Stood.{standing-shaped}
-use Rattle.bench.proofs.Padding.{padded-set}
 use Rattle.bench.proofs.EditLaws.{edit-refused, edit-done}
 
 -- ---- what a target wants, from its bytes with zeros past the last
 
-pub wanted-padded : (t : Target) (j : ℕ) → wantedWords (targetOf (isMatrix t) (padded (bytesOf t) 256 0)) j ≡ wantedWords t j
+pub wanted-padded : (t : Target) (j : ℕ) → wantedWords (targetOf (isMatrix t) (padded 256 0 (bytesOf t))) j ≡ wantedWords t j
 unfolding wantedWords
 wanted-padded (matrix rows) j = ap (rowWords 8) (pad-read rows (256 - length rows) j 0)
 wanted-padded (table entries) j =
-    let e : (k : ℕ) → getD (padded entries 256 0) k 0 ≡ getD entries k 0 = λ k. pad-read entries (256 - length entries) k 0 in
+    let e : (k : ℕ) → getD (padded 256 0 entries) k 0 ≡ getD entries k 0 = λ k. pad-read entries (256 - length entries) k 0 in
     λ i. record {
       w0 = packed (λ (b : ℕ). bit j (e b i)) 64;
       w1 = packed (λ (b : ℕ). bit j (e (64 + b) i)) 64;
@@ -71,9 +70,9 @@ retargeted b T w =
 
 -- these bytes, and what they want of each output
 abbrev pub aimed : Bench → List ℕ → Bench
-aimed b T = retargeted b T (padded (upto (wantedWords (targetOf (b .«is_matrix») T)) (b .m)) 32 noWords)
+aimed b T = retargeted b T (padded 32 noWords (upto (wantedWords (targetOf (b .«is_matrix») T)) (b .m)))
 
-aimed-full : (s : State) (t : Target) (T : List ℕ) → isMatrix (s .target) ≡ isMatrix t → T ≡ padded (bytesOf t) 256 0
+aimed-full : (s : State) (t : Target) (T : List ℕ) → isMatrix (s .target) ≡ isMatrix t → T ≡ padded 256 0 (bytesOf t)
     → aimed (fullBench s) T ≡ fullBench (record { circuit = s .circuit; target = t; limits = s .limits })
 unfolding fullBench
 aimed-full s t T same e =
@@ -93,7 +92,7 @@ aimed-full s t T same e =
       right = fullBench s .right;
       outputs = fullBench s .outputs;
       target = e i;
-      wanted = padded (upto (λ (j : ℕ). w j i) (length (s .circuit .outs))) 32 noWords;
+      wanted = padded 32 noWords (upto (λ (j : ℕ). w j i) (length (s .circuit .outs)));
       depths = fullBench s .depths;
       «and_depths» = fullBench s .«and_depths»;
       values = fullBench s .values;
@@ -215,8 +214,8 @@ module _ (i value : ℕ) where
   unfolding fullBench
   entry-entered s r =
       aimed-full s (withEntry (s .target) i value) _ (same-kind (s .target))
-      (ap (set (padded (bytesOf (s .target)) 256 0) i) (mod-eq-of-lt (r .small)) ∙ padded-set 0 256 (bytesOf (s .target)) value i (r .there) ∙ bytes (s .target)) where
-        bytes : (t : Target) → padded (set (bytesOf t) i value) 256 0 ≡ padded (bytesOf (withEntry t i value)) 256 0
+      (ap (set (padded 256 0 (bytesOf (s .target))) i) (mod-eq-of-lt (r .small)) ∙ padded-set 256 0 (bytesOf (s .target)) i value (r .there) ∙ bytes (s .target)) where
+        bytes : (t : Target) → padded 256 0 (set (bytesOf t) i value) ≡ padded 256 0 (bytesOf (withEntry t i value))
         bytes (matrix rows) = refl
         bytes (table entries) = refl
 

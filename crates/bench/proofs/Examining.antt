@@ -6,14 +6,13 @@ use native.Mathlib.Omega.{arith}
 use lib.ListN.{length, getD, set, take, replicate, length-append, length-replicate, length-take}
 use Rattle.circuit.specs.declared.Words.{Words}
 use Rattle.circuit.specs.Gate.{kindOf, nonlinear, wordsOf, noWords}
-use Rattle.circuit.specs.Lines.{Gate, lines, depthStep, andStep, wordsStep, inputWords, depths, andDepths, words}
-use Rattle.circuit.proofs.LineLaws.{made, lines-suc, lines-length, depth-le, and-depth-le, put-next, pad-read, pad-next}
+use Rattle.circuit.specs.Lines.{Gate, lines, depthStep, andStep, wordsStep, inputWords, depths, andDepths, words, padded}
+use Rattle.circuit.proofs.LineLaws.{made, lines-suc, lines-length, depth-le, and-depth-le}
 use Rattle.circuit.proofs.Depths.{deeper-is}
 use Rattle.circuit.proofs.Operands.{second, depth-two, and-two, words-two}
+use Rattle.circuit.proofs.Padding.{put-next, pad-read, pad-next, padded-same}
 use Rattle.bench.specs.declared.Bench.{Bench}
-use Rattle.bench.specs.Held.{padded}
 use Rattle.bench.specs.Parts.{gateOf, holding, entries, examinedAs, examined}
-use Rattle.bench.proofs.Padding.{padded-none}
 
 -- ---- an array with an entry a line
 
@@ -23,7 +22,7 @@ module _ {A : Type 0} (step : ℕ → Gate → List A → A) (d : A) (ins : List
   entries-read j x = pad-read (lines step d ins gate j) (256 - (n + j)) x d
 
   -- before the first gate
-  pub entries-start : length ins ≡ n → entries step d ins gate n 0 ≡ padded ins 256 d
+  pub entries-start : length ins ≡ n → entries step d ins gate n 0 ≡ padded 256 d ins
   unfolding lines
   entries-start e = let z : n + 0 ≡ length ins = omega arith in ap (λ (x : ℕ). ins ++ replicate (256 - x) d) z
 
@@ -109,12 +108,12 @@ pub record Examining (b c : Bench) (j : ℕ) : Type 0 where
   pub is : c ≡ examinedTo b j
 
 pub examine-start : (c : Bench) → c .n ≤ 8 → c .depths ≡ replicate 256 0 → c .«and_depths» ≡ replicate 256 0
-    → c .values ≡ padded (take (c .n) inputWords) 256 noWords → Examining c c 0
+    → c .values ≡ padded 256 noWords (take (c .n) inputWords) → Examining c c 0
 unfolding examinedTo
 examine-start c h ed ea ev =
     let n = c .n in
     let z = length-replicate {A = ℕ} n 0 in
-    let none = padded-none {A = ℕ} 0 256 n (omega arith) in
+    let none = padded-same {A = ℕ} 256 0 n (omega arith) in
     let p = ed ∙ sym (entries-start depthStep 0 (replicate n 0) (gateOf c) n z ∙ none) in
     let q = ea ∙ sym (entries-start andStep 0 (replicate n 0) (gateOf c) n z ∙ none) in
     let r = ev ∙ sym (entries-start wordsStep noWords (take n inputWords) (gateOf c) n (inputs-length n h)) in

@@ -9,15 +9,15 @@ use borrow.Author.Tests.{lt-ltb, le-ltb}
 use lib.Dec.{eqb, ltb}
 use lib.Pow.{pow-mono}
 use lib.ListN.{length, getD, take, replicate, length-map, length-replicate}
-use lib.Seq.{take-at}
 use Rattle.circuit.specs.declared.Words.{Words}
 use Rattle.circuit.specs.declared.Tally.{Tally}
 use Rattle.circuit.specs.declared.Refusal.the-variants.{NothingOpen}
 use Rattle.circuit.specs.Gate.{noWords, valueIn, tallyOf}
-use Rattle.circuit.specs.Lines.{Gate, gateAt, depthStep, andStep, lines, upto, words, outputOn, depthOf, andDepthOf, greatest}
-use Rattle.circuit.proofs.LineLaws.{pad-read, place, lines-length}
+use Rattle.circuit.specs.Lines.{Gate, gateAt, depthStep, andStep, lines, upto, words, outputOn, depthOf, andDepthOf, greatest, padded}
+use Rattle.circuit.proofs.LineLaws.{place, lines-length}
 use Rattle.circuit.proofs.Over.{upto-at}
 use Rattle.circuit.proofs.WordLaws.{words-values}
+use Rattle.circuit.proofs.Padding.{pad-read, padded-take}
 use Rattle.bench.specs.declared.Bench.{Bench}
 use Rattle.bench.specs.declared.Verdict.{Verdict}
 use Rattle.bench.specs.declared.Verdict.the-variants.{Wrong, OverGates, OverDepth, OverAndDepth, Pass}
@@ -25,7 +25,7 @@ use Rattle.bench.specs.declared.Reported.{Reported}
 use Rattle.bench.specs.declared.Reported.the-variants.{Given, NotGiven}
 use Rattle.bench.specs.Target.{isMatrix, wants}
 use Rattle.bench.specs.State.{State, Present, reportOf, differs, least, firstOutput, firstInput, verdictOf}
-use Rattle.bench.specs.Held.{padded, wantedWords, fullBench}
+use Rattle.bench.specs.Held.{wantedWords, fullBench}
 use Rattle.bench.specs.Calls.{reported, ReportPromise}
 use Rattle.bench.specs.Parts.{differences, differsIn, judgedAt, judged}
 use Rattle.bench.proofs.Standing.{circuit-fits}
@@ -70,11 +70,11 @@ differs-is s x j hn hx hj =
     let ws = words (c .inputs) (gateAt c) g in
     let us = upto (wantedWords (s .target)) (length (c .outs)) in
     let o = pad-read (c .outs) (32 - length (c .outs)) j 0 in
-    let v : valueIn (getD (padded ws 256 noWords) (getD (padded (c .outs) 32 0) j 0) noWords) x ≡ outputOn c x j =
-    ap (λ (l : ℕ). valueIn (getD (padded ws 256 noWords) l noWords) x) o
+    let v : valueIn (getD (padded 256 noWords ws) (getD (padded 32 0 (c .outs)) j 0) noWords) x ≡ outputOn c x j =
+    ap (λ (l : ℕ). valueIn (getD (padded 256 noWords ws) l noWords) x) o
     ∙ ap (λ (w : Words). valueIn w x) (pad-read ws (256 - length ws) (getD (c .outs) j 0) noWords)
     ∙ words-values (c .inputs) x (gateAt c) g (getD (c .outs) j 0) hx hn in
-    let t : valueIn (getD (padded us 32 noWords) j noWords) x ≡ wants (s .target) x j =
+    let t : valueIn (getD (padded 32 noWords us) j noWords) x ≡ wants (s .target) x j =
     ap (λ (w : Words). valueIn w x) (pad-read us (32 - length us) j noWords ∙ upto-at (wantedWords (s .target)) noWords (length (c .outs)) j hj)
     ∙ wanted-value (s .target) j x hx in
     λ i. not (eqb (v i) (t i))
@@ -169,9 +169,9 @@ module _ (b : Bench) (counts : Tally) (depth ands : ℕ) (v : Verdict) where
       let g = length (c .gates) in
       let kinds = map (λ (q : Gate). q .kind) (c .gates) in
       let fits = circuit-fits (isMatrix (s .target)) c (ok .circuit) in
-      let each : (step : ℕ → Gate → List ℕ → ℕ) → let l = lines step 0 (replicate n 0) (gateAt c) g in take (n + g) (padded l 256 0) ≡ l =
-      λ step. take-at _ _ (n + g) (omega (arith, lines-length step 0 (replicate n 0) (gateAt c) g, length-replicate {A = ℕ} n 0)) in
-      let k = hc ∙ ap (λ (x : Bench). tallyOf (take (x .g) (x .kinds))) e ∙ ap tallyOf (take-at kinds _ g (length-map (c .gates) _)) in
+      let each : (step : ℕ → Gate → List ℕ → ℕ) → let l = lines step 0 (replicate n 0) (gateAt c) g in take (n + g) (padded 256 0 l) ≡ l =
+      λ step. padded-take 256 0 _ (n + g) (omega (arith, lines-length step 0 (replicate n 0) (gateAt c) g, length-replicate {A = ℕ} n 0)) in
+      let k = hc ∙ ap (λ (x : Bench). tallyOf (take (x .g) (x .kinds))) e ∙ ap tallyOf (padded-take 248 0 kinds g (sym (length-map (c .gates) _))) in
       let d = hd ∙ ap (λ (x : Bench). greatest (take (x .n + x .g) (x .depths))) e ∙ ap greatest (each depthStep) in
       let a = ha ∙ ap (λ (x : Bench). greatest (take (x .n + x .g) (x .«and_depths»))) e ∙ ap greatest (each andStep) in
       let w = hv ∙ (λ i. judged (e i) (d i) (a i)) ∙ judged-is s (fits .shape .n8) in

@@ -1,6 +1,6 @@
 -- Laws of the definitions in specs/, which the proofs of the functions and the crates above cite.
 pub mod Standing
-pub mod Padding
+pub mod Setting
 pub mod Examining
 pub mod Turn
 pub mod Places

@@ -16,7 +16,7 @@ use Rattle.circuit.specs.declared.Answer.the-variants.{Done, Refused}
 use Rattle.circuit.specs.declared.Refusal.{Refusal}
 use Rattle.circuit.specs.declared.Refusal.the-variants.{Target as BadTarget}
 use Rattle.circuit.specs.Gate.{noWords}
-use Rattle.circuit.specs.Lines.{Listing, gateAt, upto}
+use Rattle.circuit.specs.Lines.{Listing, gateAt, upto, padded}
 use Rattle.circuit.specs.Stored.{held, listingIn}
 use Rattle.circuit.specs.Reading.{unless, andThen, readAnswer, reading, readingOf, listingAnswer}
 use Rattle.circuit.proofs.Accept.{Shaped, both}
@@ -25,7 +25,7 @@ use Rattle.bench.specs.declared.Bench.{Bench}
 use Rattle.bench.specs.declared.Opened.{Opened}
 use Rattle.bench.specs.Target.{Target, matrix, table, isMatrix, bytesOf, targetFits, targetOf}
 use Rattle.bench.specs.State.{Limits, State, limits}
-use Rattle.bench.specs.Held.{padded, wantedWords, fullBench, benchOf}
+use Rattle.bench.specs.Held.{wantedWords, fullBench, benchOf}
 use Rattle.bench.specs.Calls.{after, openAnswer, openState, OpenPromise}
 use Rattle.bench.specs.Parts.{gateOf, examinedAs, examined, placedOf}
 use Rattle.bench.proofs.Standing.{circuit-fits, gate-of, full-examined, examined-same}
@@ -58,12 +58,12 @@ bare c only T W gates depth ands =
     }
 
 -- as the code places it
-pub placed-by : (c : Circuit) (only : Bool) (bytes T : List ℕ) (W : List Words) (gates depth ands : ℕ) → T ≡ padded bytes 256 0
-    → W ≡ padded (upto (wantedWords (targetOf only T)) (c .m)) 32 noWords
+pub placed-by : (c : Circuit) (only : Bool) (bytes T : List ℕ) (W : List Words) (gates depth ands : ℕ) → T ≡ padded 256 0 bytes
+    → W ≡ padded 32 noWords (upto (wantedWords (targetOf only T)) (c .m))
     → examined (bare c only T W gates depth ands) ≡ placedOf c only bytes gates depth ands
 unfolding placedOf
 placed-by c only bytes T W gates depth ands e f =
-    let w = f ∙ ap (λ (l : List ℕ). padded (upto (wantedWords (targetOf only l)) (c .m)) 32 noWords) e in
+    let w = f ∙ ap (λ (l : List ℕ). padded 32 noWords (upto (wantedWords (targetOf only l)) (c .m))) e in
     λ i. examined (bare c only (e i) (w i) gates depth ands)
 
 module _ (s : State) where
@@ -77,7 +77,7 @@ module _ (s : State) where
   placed-full n8 =
       let t = s .target in
       let c = sym (circuit-of-full s) in
-      (λ i. examined (bare (c i) (isMatrix t) (padded (bytesOf t) 256 0) (padded (upto (λ (j : ℕ). wanted-padded t j i) (length (s .circuit .outs))) 32 noWords)
+      (λ i. examined (bare (c i) (isMatrix t) (padded 256 0 (bytesOf t)) (padded 32 noWords (upto (λ (j : ℕ). wanted-padded t j i) (length (s .circuit .outs))))
       (s .limits .gates) (s .limits .depth) (s .limits .andDepth)))
       ∙ full-examining n8
 

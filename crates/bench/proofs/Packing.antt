@@ -2,7 +2,6 @@
 use mathlib.Core.Path.{_≡_, ap, _∙_, sym}
 use mathlib.Core.Bool.{Bool, cond}
 use mathlib.Core.Logic.{⊎-elim}
-use mathlib.Core.List.{List}
 use Prim.Native.Nat.{ℕ, zero, suc, _≤_, _<_, _-_, _+_, _*_, _/_, _%_, _^_}
 use native.Mathlib.Omega.{arith}
 use native.Mathlib.Numerals.{add-one}
@@ -12,10 +11,10 @@ use lib.ListN.{getD, set}
 use lib.Pow.{pow-add, pow-mono, high, field, shl-exact}
 use borrow.Author.Tests.{eq-eqb, ne-eqb}
 use Rattle.circuit.specs.Gate.{Kind, bit, wordsOf, noWords}
-use Rattle.circuit.specs.Lines.{upto, inputWords}
+use Rattle.circuit.specs.Lines.{upto, inputWords, padded}
 use Rattle.circuit.proofs.Over.{upto-suc, upto-length}
-use Rattle.bench.specs.Held.{padded, packed, rowWords}
-use Rattle.bench.proofs.Padding.{padded-put}
+use Rattle.circuit.proofs.Padding.{padded-put}
+use Rattle.bench.specs.Held.{packed, rowWords}
 
 -- ---- numbers packed from bits
 
@@ -72,5 +71,5 @@ module _ (row i : ℕ) where
 
 -- ---- an array filled from the front
 
-pub upto-put : {A : Type 0} (f : ℕ → A) (d : A) (cap j : ℕ) → j < cap → set (padded (upto f j) cap d) j (f j) ≡ padded (upto f (j + 1)) cap d
-upto-put {A} f d cap j h = padded-put d cap (upto f j) (f j) j (upto-length f j) h ∙ ap (λ (l : List A). padded l cap d) (sym (upto-suc f j))
+pub upto-put : {A : Type 0} (f : ℕ → A) (d : A) (cap j : ℕ) → j < cap → set (padded cap d (upto f j)) j (f j) ≡ padded cap d (upto f (j + 1))
+upto-put {A} f d cap j h = padded-put cap d (upto f j) j (f j) (sym (upto-length f j)) h ∙ ap (padded cap d) (sym (upto-suc f j))

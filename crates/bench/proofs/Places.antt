@@ -9,10 +9,10 @@ use native.Mathlib.Numerals.{add-one}
 use lib.ListN.{length, getD, set, take, replicate, length-append}
 use lib.Seq.{take-suc, take-all, length-take-le}
 use Rattle.circuit.specs.declared.Answer.the-variants.{Done}
+use Rattle.circuit.specs.Lines.{padded}
+use Rattle.circuit.proofs.Padding.{padded-put}
 use Rattle.bench.specs.declared.Edit.{Edit}
-use Rattle.bench.specs.Held.{padded}
 use Rattle.bench.specs.Calls.{placesFrom, sizeOf, reworking}
-use Rattle.bench.proofs.Padding.{padded-put}
 
 -- the places in two lists, one after the other
 pub places-append : (i : ℕ) (xs ys : List Bool) → placesFrom i (xs ++ ys) ≡ placesFrom i xs ++ placesFrom (i + length xs) ys
@@ -55,7 +55,7 @@ pub reworking-padded : (xs : List Bool) (m : ℕ) → reworking (xs ++ replicate
 reworking-padded xs m =
     let p = places-padded xs m in
     let q = size-places 0 (xs ++ replicate m false) ∙ ap length p ∙ sym (size-places 0 xs) in
-    λ i. record { answer = Done; lines = padded (p i) 256 0; count = q i }
+    λ i. record { answer = Done; lines = padded 256 0 (p i); count = q i }
 
 -- ---- which places are listed, and in which order
 
@@ -118,7 +118,7 @@ pub record Listed (marks : List Bool) (lines : List ℕ) (count i : ℕ) : Type 
   pub upto : i ≤ 256
   pub small : count ≤ i
   pub counts : count ≡ length (placesFrom 0 (take i marks))
-  pub is : lines ≡ padded (placesFrom 0 (take i marks)) 256 0
+  pub is : lines ≡ padded 256 0 (placesFrom 0 (take i marks))
 
 pub moved-list : {marks : List Bool} {lines lines′ : List ℕ} {count count′ i : ℕ} → lines′ ≡ lines → count′ ≡ count → Listed marks lines count i → Listed marks lines′ count′ i
 moved-list p q t = rw (p, q) t
@@ -146,8 +146,8 @@ module _ (marks : List Bool) (size : length marks ≡ 256) (lines : List ℕ) (c
         counts = sym (ap length n ∙ length-append l (i ∷ []) ∙ ap (λ (x : ℕ). x + 1) (sym (t .counts)));
         is =
             ap₂ (λ (x : List ℕ) (y : ℕ). set x count y) (t .is) f
-            ∙ padded-put 0 256 l i count (sym (t .counts)) (omega (arith, t .small))
-            ∙ ap (λ (x : List ℕ). padded x 256 0) (sym n);
+            ∙ padded-put 256 0 l count i (t .counts) (omega (arith, t .small))
+            ∙ ap (padded 256 0) (sym n);
       }
 
   pub list-miss : getD marks i false ≡ false → Listed marks lines count (i + 1)
@@ -157,13 +157,13 @@ module _ (marks : List Bool) (size : length marks ≡ 256) (lines : List ℕ) (c
         upto = omega arith;
         small = omega (arith, t .small);
         counts = t .counts ∙ ap length (sym n);
-        is = t .is ∙ ap (λ (x : List ℕ). padded x 256 0) (sym n);
+        is = t .is ∙ ap (padded 256 0) (sym n);
       }
 
 pub list-done : (marks : List Bool) → length marks ≡ 256 → (lines : List ℕ) (count i : ℕ) → 256 ≤ i → Listed marks lines count i
     → _≡_ {A = Edit} (record { answer = Done; lines = lines; count = count }) (reworking marks)
 list-done marks size lines count i h t =
     let e : take i marks ≡ marks = take-all i marks (omega arith) in
-    let p = t .is ∙ ap (λ (l : List Bool). padded (placesFrom 0 l) 256 0) e in
+    let p = t .is ∙ ap (λ (l : List Bool). padded 256 0 (placesFrom 0 l)) e in
     let q = t .counts ∙ ap (λ (l : List Bool). length (placesFrom 0 l)) e ∙ sym (size-places 0 marks) in
     λ i. record { answer = Done; lines = p i; count = q i }

@@ -13,17 +13,18 @@ use Rattle.circuit.specs.declared.Answer.the-variants.{Done, Refused}
 use Rattle.circuit.specs.declared.Refusal.{Refusal}
 use Rattle.circuit.specs.declared.Refusal.the-variants.{NothingOpen, NotThere}
 use Rattle.circuit.specs.Gate.{noWords}
-use Rattle.circuit.specs.Lines.{Gate, noGate, gateAt, reads, lines, anyOf, depthStep, andStep, wordsStep, reachStep, inputWords, reached}
+use Rattle.circuit.specs.Lines.{Gate, noGate, gateAt, reads, lines, anyOf, depthStep, andStep, wordsStep, reachStep, inputWords, reached, padded}
 use Rattle.circuit.specs.Reading.{unless, shaped, gateAnswer}
 use Rattle.circuit.proofs.Accept.{Shaped, past}
+use Rattle.circuit.proofs.Padding.{padded-set}
 use Rattle.bench.specs.declared.Bench.{Bench}
 use Rattle.bench.specs.Target.{isMatrix}
 use Rattle.bench.specs.State.{State, Sound, SoundPresent, Present, nothing, present}
-use Rattle.bench.specs.Held.{padded, emptyBench, fullBench, benchOf, Stands}
+use Rattle.bench.specs.Held.{emptyBench, fullBench, benchOf, Stands}
 use Rattle.bench.specs.Parts.{gateOf, holding, entries, examinedAs, examined, AllBelow, Agree, Reexamined, standing, gateLook}
 use Rattle.bench.specs.Calls.{gateEditAnswer, withGate, gateEdited, after, afterGate, readersOf, reworking, noRework, editBy, gateEdit}
 use Rattle.bench.proofs.Standing.{GateFits, gate-fits, GatesDone, OutsDone, CircuitFits, circuit-fits, fits-circuit, all-below, gate-of, full-examined, examined-same, full-standing}
-use Rattle.bench.proofs.Padding.{padded-set, map-set, set-each}
+use Rattle.bench.proofs.Setting.{map-set, set-each}
 use Rattle.bench.proofs.Stood.{standing-shaped}
 use Rattle.bench.proofs.Places.{reworking-padded}
 
@@ -172,10 +173,10 @@ module _ (s : State) (k kind a b : ℕ) where
 
   module _ (there : k < length (s .circuit .gates)) where
     -- a column of the gates with one changed
-    column-set : (f : Gate → ℕ) → set (padded (map f (s .circuit .gates)) 248 0) k (f Q) ≡ padded (map f (set (s .circuit .gates) k Q)) 248 0
+    column-set : (f : Gate → ℕ) → set (padded 248 0 (map f (s .circuit .gates))) k (f Q) ≡ padded 248 0 (map f (set (s .circuit .gates) k Q))
     column-set f =
-        padded-set 0 248 (map f (s .circuit .gates)) (f Q) k (omega (arith, length-map (s .circuit .gates) f))
-        ∙ ap (λ (l : List ℕ). padded l 248 0) (sym (map-set f (s .circuit .gates) k Q))
+        padded-set 248 0 (map f (s .circuit .gates)) k (f Q) (omega (arith, length-map (s .circuit .gates) f))
+        ∙ ap (padded 248 0) (sym (map-set f (s .circuit .gates) k Q))
 
     pub replaced-is : replaced (fullBench s) k kind a b ≡ stale
     unfolding fullBench stale

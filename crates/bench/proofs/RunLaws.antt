@@ -11,18 +11,19 @@ use Rattle.circuit.specs.declared.Answer.{Answer}
 use Rattle.circuit.specs.declared.Answer.the-variants.{Done, Refused}
 use Rattle.circuit.specs.declared.Refusal.the-variants.{Target as BadTarget, NotThere}
 use Rattle.circuit.specs.Gate.{noWords}
-use Rattle.circuit.specs.Lines.{Gate, Listing, noGate, gateAt, lines, depthStep, andStep, wordsStep, inputWords, reached}
+use Rattle.circuit.specs.Lines.{Gate, Listing, noGate, gateAt, lines, depthStep, andStep, wordsStep, inputWords, reached, padded}
 use Rattle.circuit.specs.Stored.{stored}
 use Rattle.circuit.specs.Reading.{unless, andThen}
 use Rattle.circuit.specs.Writing.{roomAfter}
-use Rattle.circuit.proofs.LineLaws.{same-lines, pad-read}
+use Rattle.circuit.proofs.LineLaws.{same-lines}
 use Rattle.circuit.proofs.Round.{listing-stored, answer-stored}
+use Rattle.circuit.proofs.Padding.{pad-read}
 use Rattle.bench.specs.declared.Bench.{Bench}
 use Rattle.bench.specs.declared.Edit.{Edit}
 use Rattle.bench.specs.declared.Reported.{Reported}
 use Rattle.bench.specs.Target.{Target, isMatrix, targetFits}
 use Rattle.bench.specs.State.{Limits, State, Present, nothing, present, Sound, SoundPresent}
-use Rattle.bench.specs.Held.{padded, emptyBench, fullBench, benchOf, Stands}
+use Rattle.bench.specs.Held.{emptyBench, fullBench, benchOf, Stands}
 use Rattle.bench.specs.Calls.{after, openAnswer, openState, gateEditAnswer, withGate, gateEdited, afterGate, readersOf, editBy, gateEdit, reported, GatePromise, ReportPromise, afterOpen, afterOutput, outputEditAnswer, entryEditAnswer, afterEntry, limitsAnswer, afterLimits, noRework, storeAnswer, storedOf}
 use Rattle.bench.specs.Run.{Call, afterCall, presentFrom, presentAfter, Step, Runs}
 use Rattle.bench.specs.Run.Call.{opening, replacing, pointing, changing, limiting, reporting, storing}
@@ -165,8 +166,8 @@ module _ (c : Listing) (k : ℕ) (q : Gate) where
 
   held-same : {A : Type 0} (step : ℕ → Gate → List A → A) (d : A) (ins : List A) → length ins ≡ c .inputs
       → (i : ℕ) → getD (readersOf c k) i false ≡ false
-      → getD (padded (lines step d ins (gateAt (withGate c k q)) (length (withGate c k q .gates))) 256 d) i d
-      ≡ getD (padded (lines step d ins (gateAt c) (length (c .gates))) 256 d) i d
+      → getD (padded 256 d (lines step d ins (gateAt (withGate c k q)) (length (withGate c k q .gates)))) i d
+      ≡ getD (padded 256 d (lines step d ins (gateAt c) (length (c .gates)))) i d
   held-same step d ins l i h =
       let g = length (c .gates) in
       let new = lines step d ins (gateAt (withGate c k q)) in

@@ -16,7 +16,7 @@ use Rattle.bench.specs.Calls.{after, openAnswer, openState, outputEditAn
 use Rattle.bench.specs.Run.{Call, afterCall, ByteLimits}
 use Rattle.bench.specs.Run.Call.{opening, replacing, pointing, changing, limiting, reporting, storing}
 use Rattle.bench.proofs.Standing.{circuit-fits, fits-circuit}
-use Rattle.bench.proofs.Padding.{set-each}
+use Rattle.bench.proofs.Setting.{set-each}
 use Rattle.bench.proofs.EditLaws.{output-there}
 use Rattle.bench.proofs.EntryLaws.{entry-accepted, same-kind}
 use Rattle.bench.proofs.OpenLaws.{listing-accepted}

@@ -10,14 +10,15 @@ use borrow.Author.Tests.{leb-true, ltb-true, eqb-true}
 use Rattle.circuit.specs.declared.Answer.the-variants.{Done}
 use Rattle.circuit.specs.declared.Refusal.the-variants.{Shape, UnknownKind, Operand, NotXor, NoLine}
 use Rattle.circuit.specs.Gate.{noWords}
-use Rattle.circuit.specs.Lines.{Gate, Listing, gateAt, noGate, lines, depthStep, andStep, wordsStep, inputWords}
+use Rattle.circuit.specs.Lines.{Gate, Listing, gateAt, noGate, lines, depthStep, andStep, wordsStep, inputWords, padded}
 use Rattle.circuit.specs.Reading.{unless, andThen, shaped, secondFits, gateAnswer, outAnswer, gatesAnswer, outsAnswer, listingAnswer}
 use Rattle.circuit.proofs.Accept.{Shaped, shape-is, past, both, then-done}
-use Rattle.circuit.proofs.LineLaws.{lines-length, lines-agree, pad-read}
+use Rattle.circuit.proofs.LineLaws.{lines-length, lines-agree}
+use Rattle.circuit.proofs.Padding.{pad-read}
 use Rattle.bench.specs.declared.Bench.{Bench}
 use Rattle.bench.specs.Target.{isMatrix}
 use Rattle.bench.specs.State.{State, Sound}
-use Rattle.bench.specs.Held.{padded, fullBench}
+use Rattle.bench.specs.Held.{fullBench}
 use Rattle.bench.specs.Parts.{gateOf, entries, holding, examinedAs, AllBelow, standing}
 
 -- ---- one gate that is accepted
@@ -128,7 +129,7 @@ all-below only c f j h = let q = gate-fits only (c .inputs + j) _ _ _ (f .gates 
 -- ---- the bench of a state
 
 -- an entry of a padded column
-pub column-at : (f : Gate → ℕ) → f noGate ≡ 0 → (qs : List Gate) (cap k : ℕ) → getD (padded (map f qs) cap 0) k 0 ≡ f (getD qs k noGate)
+pub column-at : (f : Gate → ℕ) → f noGate ≡ 0 → (qs : List Gate) (cap k : ℕ) → getD (padded cap 0 (map f qs)) k 0 ≡ f (getD qs k noGate)
 column-at f e qs cap k =
     pad-read (map f qs) (cap - length (map f qs)) k 0 ∙ ap (getD (map f qs) k) (sym e) ∙ List·getD-map f qs k noGate
 
@@ -143,7 +144,7 @@ gate-of s k =
 
 -- padding lines is what the examination leaves past the last
 pub entries-padded : {A : Type 0} (step : ℕ → Gate → List A → A) (d : A) (ins : List A) (gate : ℕ → Gate) (n g : ℕ) → length ins ≡ n
-    → entries step d ins gate n g ≡ padded (lines step d ins gate g) 256 d
+    → entries step d ins gate n g ≡ padded 256 d (lines step d ins gate g)
 entries-padded {A} step d ins gate n g h =
     let e : n + g ≡ length (lines step d ins gate g) = omega (arith, lines-length step d ins gate g, h) in
     ap (λ (k : ℕ). lines step d ins gate g ++ replicate (256 - k) d) e

@@ -3,16 +3,17 @@
 use mathlib.Core.Path.{_≡_, refl, ap, _∙_, sym}
 use mathlib.Core.Bool.{true, cond, true≢false}
 use mathlib.Core.List.{List}
-use Prim.Native.Nat.{ℕ, _-_, _^_}
+use Prim.Native.Nat.{ℕ, _^_}
 use lib.Dec.{leb, eqb}
-use lib.ListN.{length, take, replicate}
-use lib.Seq.{take-at}
+use lib.ListN.{length, take}
 use borrow.Author.Tests.{eqb-true}
 use Rattle.circuit.specs.declared.Circuit.{Circuit}
 use Rattle.circuit.specs.declared.Writing.{Writing}
 use Rattle.circuit.specs.Stored.{listed}
+use Rattle.circuit.specs.Lines.{padded}
 use Rattle.circuit.proofs.Accept.{both}
 use Rattle.circuit.proofs.Back.{listed-held}
+use Rattle.circuit.proofs.Padding.{padded-take}
 use Rattle.bench.specs.declared.Bench.{Bench}
 use Rattle.bench.specs.declared.Edited.{Edited}
 use Rattle.bench.specs.declared.Opened.{Opened}
@@ -20,7 +21,7 @@ use Rattle.bench.specs.declared.Edit.{Edit}
 use Rattle.bench.specs.declared.Reported.{Reported}
 use Rattle.bench.specs.Target.{Target, matrix, table, isMatrix, bytesOf, targetFits, targetOf}
 use Rattle.bench.specs.State.{Limits, State, Present, nothing, present, Sound, limits}
-use Rattle.bench.specs.Held.{padded, emptyBench, fullBench, Stands, circuitOf}
+use Rattle.bench.specs.Held.{emptyBench, fullBench, Stands, circuitOf}
 use Rattle.bench.specs.Calls.{OpenPromise, GatePromise, OutputPromise, EntryPromise, LimitsPromise, ReportPromise, StorePromise}
 use Rattle.bench.proofs.StoreLaws.{circuit-of-full}
 
@@ -80,13 +81,13 @@ onBench b =
       limits = limits (b .«max_gates») (b .«max_depth») (b .«max_and_depth»);
     }
 
-target-back : (n m : ℕ) (t : Target) → targetFits n m t ≡ true → targetOf (isMatrix t) (take (cond (isMatrix t) m (2 ^ n)) (padded (bytesOf t) 256 0)) ≡ t
+target-back : (n m : ℕ) (t : Target) → targetFits n m t ≡ true → targetOf (isMatrix t) (take (cond (isMatrix t) m (2 ^ n)) (padded 256 0 (bytesOf t))) ≡ t
 unfolding targetFits
 target-back n m (matrix rows) f =
-    ap matrix (take-at rows (replicate (256 - length rows) 0) m (eqb-true (length rows) m (both (eqb (length rows) m) f .0)))
+    ap matrix (padded-take 256 0 rows m (sym (eqb-true (length rows) m (both (eqb (length rows) m) f .0))))
 target-back n m (table entries) f =
-    ap table (take-at entries (replicate (256 - length entries) 0) (2 ^ n)
-    (eqb-true (length entries) (2 ^ n) (both (eqb (length entries) (2 ^ n)) (both (leb m 8) f .1) .0)))
+    ap table (padded-take 256 0 entries (2 ^ n)
+    (sym (eqb-true (length entries) (2 ^ n) (both (eqb (length entries) (2 ^ n)) (both (leb m 8) f .1) .0))))
 
 back : (s : State) → Sound s → onBench (fullBench s) ≡ s
 unfolding fullBench

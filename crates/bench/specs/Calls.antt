@@ -10,7 +10,7 @@ use Rattle.circuit.specs.declared.Answer.{Answer}
 use Rattle.circuit.specs.declared.Answer.the-variants.{Done, Refused}
 use Rattle.circuit.specs.declared.Writing.{Writing}
 use Rattle.circuit.specs.declared.Writing.the-variants.{NotWritten}
-use Rattle.circuit.specs.Lines.{Gate, Listing, gateAt, reached}
+use Rattle.circuit.specs.Lines.{Gate, Listing, gateAt, reached, padded}
 use Rattle.circuit.specs.Stored.{stored, listingIn}
 use Rattle.circuit.specs.Reading.{unless, andThen, gateAnswer, outAnswer, readAnswer}
 use Rattle.circuit.specs.Writing.{intoRoom, roomAfter}
@@ -20,7 +20,7 @@ use Rattle.bench.specs.declared.Reported.{Reported}
 use Rattle.bench.specs.declared.Reported.the-variants.{Given, NotGiven}
 use Rattle.bench.specs.Target.{Target, matrix, table, isMatrix, rowFits, entryFits, targetFits}
 use Rattle.bench.specs.State.{Limits, State, Present, nothing, present, reportOf}
-use Rattle.bench.specs.Held.{padded, benchOf, Stands}
+use Rattle.bench.specs.Held.{benchOf, Stands}
 
 -- what is present after a call that gives the state s: a refused call leaves what was present
 abbrev pub after : Answer → State → Present → Present
@@ -137,7 +137,7 @@ readersOf c k = reached k (c .inputs) (gateAt c) (length (c .gates))
 
 -- an edit's answer with a set of reworked lines
 abbrev pub reworking : List Bool → Edit
-reworking marks = record { answer = Done; lines = padded (placesFrom 0 marks) 256 0; count = sizeOf marks }
+reworking marks = record { answer = Done; lines = padded 256 0 (placesFrom 0 marks); count = sizeOf marks }
 
 -- an edit's answer with none, as a refusal has
 abbrev pub noRework : Answer → Edit

@@ -1,21 +1,17 @@
 -- What a bench holds: the one bench that stands for a state, all that it holds as a first-time examination gives it.
 use mathlib.Core.Path.{_≡_}
 use mathlib.Core.Bool.{true, false, cond}
-use mathlib.Core.List.{List, _++_, map}
-use Prim.Native.Nat.{ℕ, zero, suc, _+_, _-_, _*_, _^_}
+use mathlib.Core.List.{List, map}
+use Prim.Native.Nat.{ℕ, zero, suc, _+_, _*_, _^_}
 use lib.Dec.{eqb}
 use lib.ListN.{length, getD, replicate}
 use Rattle.circuit.specs.declared.Words.{Words}
 use Rattle.circuit.specs.declared.Circuit.{Circuit}
 use Rattle.circuit.specs.Gate.{Kind, bit, wordsOf, noWords}
-use Rattle.circuit.specs.Lines.{Gate, gateAt, upto, inputWords, depths, andDepths, words}
+use Rattle.circuit.specs.Lines.{Gate, gateAt, upto, padded, inputWords, depths, andDepths, words}
 use Rattle.bench.specs.declared.Bench.{Bench}
 use Rattle.bench.specs.Target.{Target, matrix, table, isMatrix, bytesOf}
 use Rattle.bench.specs.State.{State, Present, nothing, present, SoundPresent}
-
--- entries, and d past the last of them, `cap` in all
-abbrev pub padded : {A : Type 0} → List A → ℕ → A → List A
-padded xs cap d = xs ++ replicate (cap - length xs) d
 
 -- the number whose bits are f 0, f 1, .., k of them
 abbrev pub packed : (ℕ → ℕ) → ℕ → ℕ
@@ -82,15 +78,15 @@ fullBench s =
       «max_gates» = s .limits .gates;
       «max_depth» = s .limits .depth;
       «max_and_depth» = s .limits .andDepth;
-      kinds = padded (map (λ (q : Gate). q .kind) (c .gates)) 248 0;
-      left = padded (map (λ (q : Gate). q .left) (c .gates)) 248 0;
-      right = padded (map (λ (q : Gate). q .right) (c .gates)) 248 0;
-      outputs = padded (c .outs) 32 0;
-      target = padded (bytesOf (s .target)) 256 0;
-      wanted = padded (upto (wantedWords (s .target)) (length (c .outs))) 32 noWords;
-      depths = padded (depths (c .inputs) (gateAt c) g) 256 0;
-      «and_depths» = padded (andDepths (c .inputs) (gateAt c) g) 256 0;
-      values = padded (words (c .inputs) (gateAt c) g) 256 noWords;
+      kinds = padded 248 0 (map (λ (q : Gate). q .kind) (c .gates));
+      left = padded 248 0 (map (λ (q : Gate). q .left) (c .gates));
+      right = padded 248 0 (map (λ (q : Gate). q .right) (c .gates));
+      outputs = padded 32 0 (c .outs);
+      target = padded 256 0 (bytesOf (s .target));
+      wanted = padded 32 noWords (upto (wantedWords (s .target)) (length (c .outs)));
+      depths = padded 256 0 (depths (c .inputs) (gateAt c) g);
+      «and_depths» = padded 256 0 (andDepths (c .inputs) (gateAt c) g);
+      values = padded 256 noWords (words (c .inputs) (gateAt c) g);
     }
 
 -- the one bench of what is present

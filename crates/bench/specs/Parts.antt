@@ -11,7 +11,7 @@ use Rattle.circuit.specs.declared.Refusal.the-variants.{NotThere, NothingOpen, 
 use Rattle.circuit.specs.declared.Words.{Words}
 use Rattle.circuit.specs.declared.Circuit.{Circuit}
 use Rattle.circuit.specs.Gate.{Kind, wordsOf, noWords, valueIn}
-use Rattle.circuit.specs.Lines.{Gate, upto, lines, depthStep, andStep, wordsStep, inputWords, depths, reached}
+use Rattle.circuit.specs.Lines.{Gate, upto, lines, depthStep, andStep, wordsStep, inputWords, depths, reached, padded}
 use Rattle.circuit.specs.Reading.{unless, shaped, gateAnswer, outAnswer}
 use Rattle.bench.specs.declared.Bench.{Bench}
 use Rattle.bench.specs.declared.Edited.{Edited}
@@ -19,7 +19,7 @@ use Rattle.bench.specs.declared.Verdict.{Verdict}
 use Rattle.bench.specs.declared.Verdict.the-variants.{Wrong, OverGates, OverDepth, OverAndDepth, Pass}
 use Rattle.bench.specs.Target.{rowFits, entryFits, targetOf}
 use Rattle.bench.specs.State.{least}
-use Rattle.bench.specs.Held.{padded, wantedWords}
+use Rattle.bench.specs.Held.{wantedWords}
 use Rattle.bench.specs.Calls.{noRework}
 
 -- a row or an entry of a target of that kind keeps its rule
@@ -152,8 +152,8 @@ placedOf c only bytes gates depth ands =
       left = c .left;
       right = c .right;
       outputs = c .outputs;
-      target = padded bytes 256 0;
-      wanted = padded (upto (wantedWords (targetOf only (padded bytes 256 0))) (c .m)) 32 noWords;
+      target = padded 256 0 bytes;
+      wanted = padded 32 noWords (upto (wantedWords (targetOf only (padded 256 0 bytes))) (c .m));
       depths = replicate 256 0;
       «and_depths» = replicate 256 0;
       values = replicate 256 noWords;

@@ -4,8 +4,7 @@ ghost use mathlib.Core.Bool.{_||_};
 ghost use Prim.Native.Nat.{max, _+_, _<_, _≤_};
 ghost use lib.ListN.{getD, take};
 ghost use Rattle.circuit.specs.Gate.{kindOf, nonlinear, noWords};
-ghost use Rattle.circuit.specs.Lines.{inputWords};
-ghost use Rattle.bench.specs.Held.{padded};
+ghost use Rattle.circuit.specs.Lines.{inputWords, padded};
 ghost use Rattle.bench.specs.Parts.{examined, Reexamined};
 use crate::Bench;
 use circuit::NO_WORDS;
@@ -89,7 +88,7 @@ fn and_deeper(kind: u8, a: u8, b: u8) -> u8
 // The values of n inputs, on their lines.
 fn inputs_only(n: usize) -> [Words; 256]
     requires { ⌜ n ≤ 8 ⌝ }
-    ensures { λ r. ⌜ r ≡ padded (take n inputWords) 256 noWords ⌝ }
+    ensures { λ r. ⌜ r ≡ padded 256 noWords (take n inputWords) ⌝ }
 {
     let mut values = [NO_WORDS; 256];
     let mut i: usize = 0;

@@ -4,7 +4,8 @@ ghost use Prim.Native.Nat.{_≤_};
 ghost use lib.ListN.{length};
 ghost use Rattle.bench.specs.Target.{matrix, table, targetOf};
 ghost use Rattle.circuit.specs.declared.Answer.the-variants.{Refused};
-ghost use Rattle.bench.specs.Held.{emptyBench, padded};
+ghost use Rattle.circuit.specs.Lines.{padded};
+ghost use Rattle.bench.specs.Held.{emptyBench};
 ghost use Rattle.bench.specs.Calls.{OpenPromise};
 ghost use Rattle.bench.specs.State.{limits};
 ghost use Rattle.bench.specs.Parts.{placedOf};
@@ -56,7 +57,7 @@ pub fn empty() -> Bench
 // The target's bytes, and zeros past the last.
 fn target_bytes(bytes: &[u8]) -> [u8; 256]
     requires { ⌜ length (now bytes) ≤ 256 ⌝ }
-    ensures { λ r. ⌜ r ≡ padded (now (bytes .entry)) 256 0 ⌝ }
+    ensures { λ r. ⌜ r ≡ padded 256 0 (now (bytes .entry)) ⌝ }
 {
     let mut target = [0u8; 256];
     let mut i: usize = 0;

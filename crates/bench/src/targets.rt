@@ -4,9 +4,9 @@ ghost use mathlib.Core.Bool.{true};
 ghost use Prim.Native.Nat.{_+_, _<_, _≤_};
 ghost use lib.ListN.{getD};
 ghost use Rattle.circuit.specs.Gate.{bit, noWords};
-ghost use Rattle.circuit.specs.Lines.{upto};
+ghost use Rattle.circuit.specs.Lines.{upto, padded};
 ghost use Rattle.bench.specs.Target.{rowFits, entryFits, allOf, targetFits, targetOf};
-ghost use Rattle.bench.specs.Held.{padded, packed, rowWords, columnWords, wantedWords};
+ghost use Rattle.bench.specs.Held.{packed, rowWords, columnWords, wantedWords};
 ghost use Rattle.bench.specs.Parts.{valueFits};
 use crate::examine::input_words;
 use circuit::NO_WORDS;
@@ -137,7 +137,7 @@ fn wanted_by(only: bool, target: &[u8; 256], j: usize) -> Words
 // What the target wants of each of m outputs, in words.
 pub(crate) fn wanted_words(only: bool, target: &[u8; 256], m: usize) -> [Words; 32]
     requires { ⌜ m ≤ 32 ⌝ }
-    ensures { λ r. ⌜ r ≡ padded (upto (wantedWords (targetOf only (now (target .entry)))) m) 32 noWords ⌝ }
+    ensures { λ r. ⌜ r ≡ padded 32 noWords (upto (wantedWords (targetOf only (now (target .entry)))) m) ⌝ }
 {
     let mut wanted = [NO_WORDS; 32];
     let mut j: usize = 0;

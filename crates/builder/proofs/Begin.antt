@@ -9,7 +9,9 @@ use lib.Dec.{eqb}
 use lib.ListN.{length, getD, take, replicate, length-append, length-map, length-replicate, replicate-append-replicate}
 use lib.Seq.{take-at}
 use Rattle.circuit.specs.Lines as circuits
+use Rattle.circuit.specs.Lines.{padded}
 use Rattle.circuit.specs.Stored.{held}
+use Rattle.circuit.proofs.Padding.{padded-none}
 use Rattle.distance.specs.Base.{Line, line, lines, Gate, made, run, Small, Shallow, inputs, weight}
 use Rattle.distance.specs.Distance.{gates, distance}
 use Rattle.distance.proofs.Fewest.{distance-fewest, fewest-distance}
@@ -17,8 +19,7 @@ use Rattle.distance.proofs.Weight.{distance-inputs, small-inputs, no-weight, we
 use Rattle.builder.specs.declared.grow.State.{State}
 use Rattle.builder.specs.Rule.{Row, row, reach, count, distances, sum, lowest, taken, nextGate, greedy, xorGate, circuitOf}
 use Rattle.builder.specs.Call.{within, built, tooHeavy}
-use Rattle.builder.specs.Kept.{Sounds, Alive, rowsOf, padded, base, Poised, Stands, Grown, Fit, Begun}
-use Rattle.builder.proofs.Lists.{padded-none}
+use Rattle.builder.specs.Kept.{Sounds, Alive, rowsOf, base, Poised, Stands, Grown, Fit, Begun}
 use Rattle.builder.proofs.Refusals.{Accepted, fit, any-none}
 
 -- ---- one limit for all rows
@@ -150,7 +151,7 @@ module _ (n : ℕ) (ts : List ℕ) (D : ℕ) (a : Accepted n ts D) (s : State) (
         alive = rw (base-is, rows-are) (first-alive n D (few .inputs) (a .depth) ts R);
         near = rw (base-is, rows-are) (omega (arith, sum-small));
         gaps-are =
-            b .gaps-are ∙ ap (padded 32) (first-distances n D (few .inputs) (a .depth) ts R ∙ (λ i. distances (sym base-is i) (sym rows-are i)));
+            b .gaps-are ∙ ap (padded 32 0) (first-distances n D (few .inputs) (a .depth) ts R ∙ (λ i. distances (sym base-is i) (sym rows-are i)));
       }
 
   pub stands : Stands (base s) ts limits s
@@ -164,8 +165,8 @@ module _ (n : ℕ) (ts : List ℕ) (D : ℕ) (a : Accepted n ts D) (s : State) (
         upto = omega (arith, b .none);
         written = ap (λ (k : ℕ). greedy k (base s) (rowsOf ts limits)) (sym z);
         ran = ap (λ (k : ℕ). run (base s) (greedy k (base s) (rowsOf ts limits))) (sym z);
-        lefts = b .lefts ∙ sym (padded-none 248);
-        rights = b .rights ∙ sym (padded-none 248);
+        lefts = b .lefts ∙ sym (padded-none 248 0);
+        rights = b .rights ∙ sym (padded-none 248 0);
         few-inputs = omega (arith, ap length base-is, inputs-length n, few .inputs);
         long = omega (arith, b .long, b .none, ap length base-is, inputs-length n);
       }
@@ -184,8 +185,7 @@ module _ (cap : ℕ) where
       zeros (g ∷ gs) = ap (λ (l : List ℕ). 0 ∷ l) (zeros gs)
 
   column : (f : Gate → ℕ) (f′ : circuits.Gate → ℕ) → ((g : Gate) → f g ≡ f′ (xorGate g)) → (gs : List Gate)
-      → padded cap (map f gs) ≡ map f′ (map xorGate gs) ++ replicate (cap - length (map xorGate gs)) 0
-  unfolding padded
+      → padded cap 0 (map f gs) ≡ map f′ (map xorGate gs) ++ replicate (cap - length (map xorGate gs)) 0
   column f f′ e gs = ap₂ (λ (l : List ℕ) (k : ℕ). l ++ replicate (cap - k) 0) (same gs) (length-map gs f ∙ sym (length-map gs xorGate))
     where
       same : (gs : List Gate) → map f gs ≡ map f′ (map xorGate gs)
@@ -205,16 +205,16 @@ unfolding taken
 taken-few ls rs = greedy-few 224 ls rs
 
 pub circuit-held : (n : ℕ) (ts : List ℕ) (D : ℕ) (s : State) (outs : List ℕ) → length ts ≤ 32 → Grown (inputs n) (within D ts) s
-    → outs ≡ padded 32 (map (lowest (base s)) (within D ts))
+    → outs ≡ padded 32 0 (map (lowest (base s)) (within D ts))
     → record { n = n; m = length ts; g = s .count; kinds = replicate 248 0; left = s .left; right = s .right; outputs = outs } ≡ held (built n ts D)
-unfolding built circuitOf padded
+unfolding built circuitOf
 circuit-held n ts D s outs h g e =
     let gs = taken (inputs n) (within D ts) in
     let few = taken-few (inputs n) (within D ts) in
     let k = kinds-zero 248 gs (omega arith) in
     let l = g .lefts ∙ column 248 (λ (q : Gate). q .a) (λ (q : circuits.Gate). q .left) (λ q. refl) gs in
     let r = g .rights ∙ column 248 (λ (q : Gate). q .b) (λ (q : circuits.Gate). q .right) (λ q. refl) gs in
-    let o = e ∙ ap (λ (x : List Line). padded 32 (map (lowest x) (within D ts))) (g .lines-are) in
+    let o = e ∙ ap (λ (x : List Line). padded 32 0 (map (lowest x) (within D ts))) (g .lines-are) in
     let c = g .counted ∙ sym (length-map gs xorGate) in
     let m : length ts ≡ length (map (lowest (run (inputs n) gs)) (within D ts)) = sym (length-map (within D ts) (lowest (run (inputs n) gs)) ∙ length-map ts (λ (t : ℕ). row t D)) in
     λ i. record { n = n; m = m i; g = c i; kinds = k i; left = l i; right = r i; outputs = o i }

@@ -6,14 +6,15 @@ use native.Mathlib.Nat.{mul-le-mul}
 use native.Mathlib.Omega.{arith}
 use lib.ListN.{length, getD, take, drop, set, length-append, drop-of-length-le}
 use lib.Seq.{length-take-le, take-length}
-use Rattle.circuit.specs.Lines.{greatest}
+use Rattle.circuit.specs.Lines.{greatest, padded}
+use Rattle.circuit.proofs.Padding.{padded-none, padded-put}
 use Rattle.distance.specs.Base.{Line, Gate, made, Small}
 use Rattle.distance.specs.Table.{costAt}
 use Rattle.distance.proofs.Entries.{cost-is}
 use Rattle.builder.specs.Rule.{row, away, distances, sum, squares, distancesAfter}
-use Rattle.builder.specs.Kept.{Sound, Sounds, rowsOf, padded, Held, nextGap, nextGaps, misses, missed, added, goalsAfter, goalsWith, toGo, placeOf, roomOf, lowOf, Aimed, Goals}
+use Rattle.builder.specs.Kept.{Sound, Sounds, rowsOf, Held, nextGap, nextGaps, misses, missed, added, goalsAfter, goalsWith, toGo, placeOf, roomOf, lowOf, Aimed, Goals}
 use Rattle.builder.proofs.Lookup.{look-made, look-up, misses-le}
-use Rattle.builder.proofs.Lists.{drop-at-next, take-next, padded-none, padded-put}
+use Rattle.builder.proofs.Lists.{drop-at-next, take-next}
 
 -- ---- sums over the goals, from a place on
 module _ (h : List ℕ) (m c : ℕ) where
@@ -134,7 +135,7 @@ pub aiming-start : (ts limits gaps : List ℕ) → Aiming ts limits gaps (lib.Li
 aiming-start ts limits gaps =
     record {
       upto = omega arith;
-      so-far = record { places-are = sym (padded-none 32); rooms-are = sym (padded-none 32); lows-are = sym (padded-none 32); count-is = refl; floor-is = refl };
+      so-far = record { places-are = sym (padded-none 32 0); rooms-are = sym (padded-none 32 0); lows-are = sym (padded-none 32 0); count-is = refl; floor-is = refl };
       small = omega arith;
       count = omega arith;
     }
@@ -153,9 +154,9 @@ module _ (ts limits gaps places rooms lows : List ℕ) (k floor i : ℕ) (e : le
         upto = omega arith;
         so-far =
             record {
-              places-are = a .places-are ∙ ap (padded 32) (sym (row-made placeOf gaps ts i (sym e′) (omega arith) z));
-              rooms-are = a .rooms-are ∙ ap (padded 32) (sym (row-made roomOf gaps limits i (omega arith) (omega arith) z));
-              lows-are = a .lows-are ∙ ap (padded 32) (sym lows-same);
+              places-are = a .places-are ∙ ap (padded 32 0) (sym (row-made placeOf gaps ts i (sym e′) (omega arith) z));
+              rooms-are = a .rooms-are ∙ ap (padded 32 0) (sym (row-made roomOf gaps limits i (omega arith) (omega arith) z));
+              lows-are = a .lows-are ∙ ap (padded 32 0) (sym lows-same);
               count-is = a .count-is ∙ ap length (sym lows-same);
               floor-is = a .floor-is ∙ ap sum (sym lows-same);
             };
@@ -180,16 +181,16 @@ module _ (ts limits gaps places rooms lows : List ℕ) (k floor i : ℕ) (e : le
             record {
               places-are =
                   ap (λ (l : List ℕ). set l k (g * 256 + getD ts i 0)) (a .places-are)
-                  ∙ padded-put 32 (toGo placeOf (take i gaps) (take i ts)) k (g * 256 + getD ts i 0) kp below
-                  ∙ ap (padded 32) (sym (row-goal placeOf gaps ts i (sym e′) (omega arith) g z));
+                  ∙ padded-put 32 0 (toGo placeOf (take i gaps) (take i ts)) k (g * 256 + getD ts i 0) kp below
+                  ∙ ap (padded 32 0) (sym (row-goal placeOf gaps ts i (sym e′) (omega arith) g z));
               rooms-are =
                   ap₂ (λ (l : List ℕ) (x : ℕ). set l k x) (a .rooms-are) er
-                  ∙ padded-put 32 (toGo roomOf (take i gaps) (take i limits)) k (costAt (getD limits i 0)) kr below
-                  ∙ ap (padded 32) (sym (row-goal roomOf gaps limits i (omega arith) (omega arith) g z));
+                  ∙ padded-put 32 0 (toGo roomOf (take i gaps) (take i limits)) k (costAt (getD limits i 0)) kr below
+                  ∙ ap (padded 32 0) (sym (row-goal roomOf gaps limits i (omega arith) (omega arith) g z));
               lows-are =
                   ap (λ (l : List ℕ). set l k g) (a .lows-are)
-                  ∙ padded-put 32 (toGo lowOf (take i gaps) (take i ts)) k g (a .count-is) below
-                  ∙ ap (padded 32) (sym low-next);
+                  ∙ padded-put 32 0 (toGo lowOf (take i gaps) (take i ts)) k g (a .count-is) below
+                  ∙ ap (padded 32 0) (sym low-next);
               count-is = omega (arith, a .count-is, ap length low-next, length-append (toGo lowOf (take i gaps) (take i ts)) (g ∷ []));
               floor-is = omega (arith, a .floor-is, ap sum low-next, sum-snoc (toGo lowOf (take i gaps) (take i ts)) g);
             };
@@ -206,9 +207,9 @@ aiming-end ts limits gaps places rooms lows k floor i e e′ p w =
     let c = ap (λ (x : ℕ). take x gaps) (z ∙ e′) ∙ take-length gaps in
     let s = w .so-far in
     record {
-      places-are = s .places-are ∙ ap₂ (λ (x y : List ℕ). padded 32 (toGo placeOf x y)) c a;
-      rooms-are = s .rooms-are ∙ ap₂ (λ (x y : List ℕ). padded 32 (toGo roomOf x y)) c b;
-      lows-are = s .lows-are ∙ ap₂ (λ (x y : List ℕ). padded 32 (toGo lowOf x y)) c a;
+      places-are = s .places-are ∙ ap₂ (λ (x y : List ℕ). padded 32 0 (toGo placeOf x y)) c a;
+      rooms-are = s .rooms-are ∙ ap₂ (λ (x y : List ℕ). padded 32 0 (toGo roomOf x y)) c b;
+      lows-are = s .lows-are ∙ ap₂ (λ (x y : List ℕ). padded 32 0 (toGo lowOf x y)) c a;
       count-is = s .count-is ∙ ap₂ (λ (x y : List ℕ). length (toGo lowOf x y)) c a;
       floor-is = s .floor-is ∙ ap₂ (λ (x y : List ℕ). sum (toGo lowOf x y)) c a;
     }

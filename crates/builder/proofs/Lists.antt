@@ -1,60 +1,28 @@
--- Laws of lists: an array that is filled from the front, and the lines and rows of two parallel lists.
+-- Laws of lists: the element at a place, and the lines and rows of two parallel lists.
 use mathlib.Core.List.{List, [], _∷_, _++_, map}
 use mathlib.Core.Path.{_≡_, refl, sym, ap, ap₂, _∙_}
-use Prim.Native.Nat.{ℕ, zero, suc, _+_, _-_, _≤_, _<_, max}
+use Prim.Native.Nat.{ℕ, zero, suc, _+_, _≤_, _<_, max}
 use native.Mathlib.Numerals.{add-one}
 use native.Mathlib.Omega.{arith}
 use lib.Bits.{bitXor}
-use lib.ListN.{length, getD, take, drop, set, replicate, length-append, length-replicate}
-use lib.Seq.{take-suc, take-at, take-length, drop-cons, length-take-le}
+use lib.ListN.{length, getD, take, drop}
+use lib.Seq.{take-suc, drop-cons}
 use Rattle.circuit.specs.Lines.{greatest}
-use Rattle.circuit.proofs.LineLaws.{put-next}
 use Rattle.distance.specs.Base.{Line, line, lines, none, gate, made, Small}
 use Rattle.builder.specs.Rule.{Row, row}
-use Rattle.builder.specs.Kept.{rowsOf, padded}
+use Rattle.builder.specs.Kept.{rowsOf}
 
--- ---- an array that is filled from the front
-pub padded-none : (cap : ℕ) → padded cap [] ≡ replicate cap 0
-unfolding padded
-padded-none cap = let e : cap - 0 ≡ cap = omega arith in ap (λ (x : ℕ). replicate x 0) e
-
-module _ (cap : ℕ) (xs : List ℕ) where
-  pub padded-length : length xs ≤ cap → length (padded cap xs) ≡ cap
-  unfolding padded
-  padded-length h = omega (arith, length-append xs (replicate (cap - length xs) 0), length-replicate {A = ℕ} (cap - length xs) 0)
-
-  pub padded-take : (k : ℕ) → k ≡ length xs → take k (padded cap xs) ≡ xs
-  unfolding padded
-  padded-take k e = take-at xs (replicate (cap - length xs) 0) k (sym e)
-
-  -- one entry more
-  pub padded-put : (k v : ℕ) → k ≡ length xs → k < cap → set (padded cap xs) k v ≡ padded cap (xs ++ (v ∷ []))
-  unfolding padded
-  padded-put k v e h =
-      let p : cap - length xs ≡ suc (cap - suc (length xs)) = omega arith in
-      let q : cap - suc (length xs) ≡ cap - length (xs ++ (v ∷ [])) = omega (arith, length-append xs (v ∷ [])) in
-      ap (λ (x : ℕ). set (xs ++ replicate x 0) k v) p
-      ∙ put-next xs 0 (replicate (cap - suc (length xs)) 0) v k (sym e)
-      ∙ ap (λ (x : ℕ). (xs ++ (v ∷ [])) ++ replicate x 0) q
-
--- the next entry of a list that is to stand in the array
-pub padded-next : (cap : ℕ) (zs : List ℕ) (r v : ℕ) → r < length zs → length zs ≤ cap → v ≡ getD zs r 0 → set (padded cap (take r zs)) r v ≡ padded cap (take (r + 1) zs)
-padded-next cap zs r v h k e =
-    padded-put cap (take r zs) r v (sym (length-take-le r zs (omega arith))) (omega arith)
-    ∙ ap (padded cap) (ap (λ (x : ℕ). take r zs ++ (x ∷ [])) e ∙ sym (take-suc zs r 0 h) ∙ ap (λ (x : ℕ). take x zs) (sym (add-one r)))
-
-pub padded-all : (cap : ℕ) (zs : List ℕ) (r : ℕ) → r ≡ length zs → padded cap (take r zs) ≡ padded cap zs
-padded-all cap zs r e = ap (padded cap) (ap (λ (x : ℕ). take x zs) e ∙ take-length zs)
-
--- what stands at a place of a list that a map made, or that is dropped up to it
+-- what stands at a place of a list that a map made
 pub map-at : {A : Type 0} (f : A → ℕ) (l : List A) (d : A) (i : ℕ) → i < length l → getD (map f l) i 0 ≡ f (getD l i d)
 map-at f [] d i h = absurd (omega arith)
 map-at f (x ∷ l) d zero h = refl
 map-at f (x ∷ l) d (suc i) h = map-at f l d i (omega arith)
 
+-- a list that is dropped up to a place begins with what stands there
 pub drop-at-next : {A : Type 0} (l : List A) (i : ℕ) (d : A) → i < length l → drop i l ≡ getD l i d ∷ drop (i + 1) l
 drop-at-next {A} l i d h = drop-cons l i d h ∙ ap (λ (x : ℕ). getD l i d ∷ drop x l) (sym (add-one i))
 
+-- one element more is taken
 pub take-next : {A : Type 0} (l : List A) (i : ℕ) (d : A) → i < length l → take (i + 1) l ≡ take i l ++ (getD l i d ∷ [])
 take-next l i d h = ap (λ (x : ℕ). take x l) (add-one i) ∙ take-suc l i d h
 

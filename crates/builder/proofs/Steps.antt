@@ -10,8 +10,9 @@ use lib.Bits.{bitXor, xor-lt}
 use lib.Dec.{eqb}
 use lib.ListN.{length, getD, take, drop, set, length-set, length-map, length-append}
 use lib.Seq.{length-take-le, take-suc-set, getD-take}
-use Rattle.circuit.specs.Lines.{greatest}
+use Rattle.circuit.specs.Lines.{greatest, padded}
 use Rattle.circuit.proofs.Depths.{deeper-is}
+use Rattle.circuit.proofs.Padding.{padded-length, padded-take, padded-put}
 use Rattle.distance.specs.Base.{Line, line, lines, none, Gate, gate, made, run, Small, Shallow}
 use Rattle.distance.specs.Table.{costAt, endOf}
 use Rattle.distance.specs.Table as table
@@ -19,12 +20,12 @@ use Rattle.distance.proofs.Entries.{cost-is}
 use Rattle.distance.proofs.Search.{lines-at, lines-end}
 use Rattle.builder.specs.declared.grow.State.{State}
 use Rattle.builder.specs.Rule.{Row, row, away, distances, sum, deepest, makes, lowest, lowestFrom, nextGate, greedy, taken}
-use Rattle.builder.specs.Kept.{Sounds, Alive, rowsOf, padded, Held, nextGaps, Lowering, base, Choosing, Poised, Tabled, Next, Stepped, Stands, Grown}
+use Rattle.builder.specs.Kept.{Sounds, Alive, rowsOf, Held, nextGaps, Lowering, base, Choosing, Poised, Tabled, Next, Stepped, Stands, Grown}
 use Rattle.builder.proofs.Reach.{small-get, small-made, away-lt}
 use Rattle.builder.proofs.Ends.{Less, next-less, alive-more}
 use Rattle.builder.proofs.Goals.{next-distances, next-falls}
 use Rattle.builder.proofs.KeptUp.{held-more, cost-le}
-use Rattle.builder.proofs.Lists.{lines-length, lines-get, lines-snoc, rows-length, rows-at, map-at, padded-length, padded-take, padded-put, greatest-below}
+use Rattle.builder.proofs.Lists.{lines-length, lines-get, lines-snoc, rows-length, rows-at, map-at, greatest-below}
 
 -- ---- the row's lowest line
 module _ (ms ds : List ℕ) (r : Row) (i : ℕ) (l : length ms ≡ length ds) where
@@ -132,10 +133,10 @@ module _ (ts limits : List ℕ) (s : State) (p : Poised ts limits s) where
   gaps-long = sym (length-map rs (away (base s)) ∙ rows-length ts limits (p .paired))
 
   pub gaps-taken : take (length ts) (s .gaps) ≡ distances (base s) rs
-  gaps-taken = ap (take (length ts)) (p .gaps-are) ∙ padded-take 32 (distances (base s) rs) (length ts) gaps-long
+  gaps-taken = ap (take (length ts)) (p .gaps-are) ∙ padded-take 32 0 (distances (base s) rs) (length ts) gaps-long
 
   pub gaps-wide : length (s .gaps) ≡ 32
-  gaps-wide = ap length (p .gaps-are) ∙ padded-length 32 (distances (base s) rs) (omega (arith, gaps-long, p .few))
+  gaps-wide = ap length (p .gaps-are) ∙ padded-length 32 0 (distances (base s) rs) (omega (arith, gaps-long, p .few))
 
   pub choosing : (h : List ℕ) → Tabled ts limits s h → Choosing ms ds ts limits (take (length ts) (s .gaps)) h
   unfolding base
@@ -214,11 +215,11 @@ module _ (ts limits : List ℕ) (s : State) (p : Poised ts limits s) where
       new = base s ++ (made (base s) (gate i j) ∷ [])
 
       -- the distances from the new base
-      module _ (bytes : (k : ℕ) → getD ts k 0 < 256) (gaps′ : List ℕ) (eg : gaps′ ≡ padded 32 (nextGaps h m c (take (length ts) (s .gaps)) ts limits)) where
-        gaps-next : gaps′ ≡ padded 32 (distances new rs)
+      module _ (bytes : (k : ℕ) → getD ts k 0 < 256) (gaps′ : List ℕ) (eg : gaps′ ≡ padded 32 0 (nextGaps h m c (take (length ts) (s .gaps)) ts limits)) where
+        gaps-next : gaps′ ≡ padded 32 0 (distances new rs)
         gaps-next =
             eg
-            ∙ ap (padded 32)
+            ∙ ap (padded 32 0)
             ((λ u. nextGaps h (sym mask-is u) (cost-pow u) (gaps-taken u) ts limits)
             ∙ next-distances h (base s) (greatest (distances (base s) rs)) (gate i j) t (p .small) (less .one) (less .two) mask-byte ts limits (p .paired) (p .sound) bytes (omega arith))
 
@@ -226,10 +227,10 @@ module _ (ts limits : List ℕ) (s : State) (p : Poised ts limits s) where
         next-long = sym (length-map rs (away new) ∙ rows-length ts limits (p .paired))
 
         taken-next : take (length ts) gaps′ ≡ distances new rs
-        taken-next = ap (take (length ts)) gaps-next ∙ padded-take 32 (distances new rs) (length ts) next-long
+        taken-next = ap (take (length ts)) gaps-next ∙ padded-take 32 0 (distances new rs) (length ts) next-long
 
         pub next-wide : length gaps′ ≡ 32
-        next-wide = ap length gaps-next ∙ padded-length 32 (distances new rs) (omega (arith, next-long, p .few))
+        next-wide = ap length gaps-next ∙ padded-length 32 0 (distances new rs) (omega (arith, next-long, p .few))
 
         -- no distance grew
         top-falls : greatest (distances new rs) ≤ greatest (distances (base s) rs)
@@ -273,7 +274,7 @@ module _ (ts limits : List ℕ) (s : State) (p : Poised ts limits s) where
                 wide = length-set (s .masks) (s .len) m ∙ p .wide;
                 deep = length-set (s .depths) (s .len) w ∙ p .deep;
                 shallow = shallow-set (s .depths) (s .len) w depth-small (p .shallow);
-                gaps-are = gaps-next ∙ ap (λ (l : List Line). padded 32 (distances l rs)) (sym grown);
+                gaps-are = gaps-next ∙ ap (λ (l : List Line). padded 32 0 (distances l rs)) (sym grown);
                 tabled =
                     subst (λ (l : List Line). Held g l (greatest (distances l rs))) (sym grown)
                     (subst (λ (l : Line). Held g (base s ++ (l ∷ [])) (greatest (distances (base s ++ (l ∷ [])) rs))) (sym (made-is ∙ ap (line m) (sym ew)))
@@ -319,8 +320,8 @@ module _ (first : List Line) (ts limits : List ℕ) (s : State) (z : Stands firs
       let t : taken first rows ≡ z .so-far = z .written ∙ ap (λ (l : List Gate). z .so-far ++ l) e ∙ append-nil (z .so-far) in
       record {
         lines-are = sym (z .ran ∙ ap (run (base s)) e);
-        lefts = z .lefts ∙ ap (λ (l : List Gate). padded 248 (map (λ (g : Gate). g .a) l)) (sym t);
-        rights = z .rights ∙ ap (λ (l : List Gate). padded 248 (map (λ (g : Gate). g .b) l)) (sym t);
+        lefts = z .lefts ∙ ap (λ (l : List Gate). padded 248 0 (map (λ (g : Gate). g .a) l)) (sym t);
+        rights = z .rights ∙ ap (λ (l : List Gate). padded 248 0 (map (λ (g : Gate). g .b) l)) (sym t);
         counted = sym (z .counted) ∙ ap length (sym t);
         within = z .poised .within;
       }
@@ -355,10 +356,10 @@ module _ (first : List Line) (ts limits : List ℕ) (s : State) (z : Stands firs
         long = omega (arith, z .long, e .long, e .counted);
       }
     where
-      put : (f : Gate → ℕ) (old new : List ℕ) (v : ℕ) → old ≡ padded 248 (map f (z .so-far)) → new ≡ set old (s .count) v → f (gate i j) ≡ v
-          → new ≡ padded 248 (map f (z .so-far ++ (gate i j ∷ [])))
+      put : (f : Gate → ℕ) (old new : List ℕ) (v : ℕ) → old ≡ padded 248 0 (map f (z .so-far)) → new ≡ set old (s .count) v → f (gate i j) ≡ v
+          → new ≡ padded 248 0 (map f (z .so-far ++ (gate i j ∷ [])))
       put f old new v a b k =
           b
           ∙ ap (λ (l : List ℕ). set l (s .count) v) a
-          ∙ padded-put 248 (map f (z .so-far)) (s .count) v (omega (arith, length-map (z .so-far) f, z .counted)) (omega arith)
-          ∙ ap (padded 248) (ap (λ (x : ℕ). map f (z .so-far) ++ (x ∷ [])) (sym k) ∙ sym (map-snoc f (z .so-far) (gate i j)))
+          ∙ padded-put 248 0 (map f (z .so-far)) (s .count) v (omega (arith, length-map (z .so-far) f, z .counted)) (omega arith)
+          ∙ ap (padded 248 0) (ap (λ (x : ℕ). map f (z .so-far) ++ (x ∷ [])) (sym k) ∙ sym (map-snoc f (z .so-far) (gate i j)))

@@ -7,12 +7,13 @@ use native.Mathlib.Omega.{arith}
 use lib.Bits.{bitXor, xor-lt}
 use lib.ListN.{length, getD, take}
 use Rattle.circuit.specs.Lines.{greatest}
+use Rattle.circuit.proofs.Padding.{padded-take}
 use Rattle.distance.specs.Base.{Line, lines, Gate, gate, made, Shallow}
 use Rattle.builder.specs.Rule.{Row, row, away, distances, sum, squares, deepest, Best, best, start, better, consider, allPairs, distancesAfter, bestPair}
 use Rattle.builder.specs.Kept.{Sound, rowsOf, goalsAfter, goalsWith, toGo, placeOf, roomOf, lowOf, Goals, Aimed, Choosing, Weighing}
 use Rattle.builder.proofs.Reach.{away-lt}
 use Rattle.builder.proofs.Goals.{Missed, Alike, alike, are-goals}
-use Rattle.builder.proofs.Lists.{made-at, lines-length, lines-small, rows-length, rows-at, rows-limits, map-at, padded-take, greatest-below}
+use Rattle.builder.proofs.Lists.{made-at, lines-length, lines-small, rows-length, rows-at, rows-limits, map-at, greatest-below}
 use Rattle.builder.proofs.Choice.{depth-at, consider-deep, consider-over, consider-done, same-pairs}
 
 -- the goals' distances sum to little
@@ -125,13 +126,13 @@ module _ (ms ds ts limits gaps h : List ℕ) (z : Choosing ms ds ts limits gaps 
     few-goals = omega (arith, a .count-is, goals-given .few)
 
     places-taken : take k P ≡ ps
-    places-taken = ap (take k) (a .places-are) ∙ padded-take 32 ps k (omega (arith, a .count-is, goals-given .places))
+    places-taken = ap (take k) (a .places-are) ∙ padded-take 32 0 ps k (omega (arith, a .count-is, goals-given .places))
 
     rooms-taken : take k R ≡ fs
-    rooms-taken = ap (take k) (a .rooms-are) ∙ padded-take 32 fs k (omega (arith, a .count-is, goals-given .rooms))
+    rooms-taken = ap (take k) (a .rooms-are) ∙ padded-take 32 0 fs k (omega (arith, a .count-is, goals-given .rooms))
 
     lows-taken : take k L ≡ gs
-    lows-taken = ap (take k) (a .lows-are) ∙ padded-take 32 gs k (a .count-is)
+    lows-taken = ap (take k) (a .lows-are) ∙ padded-take 32 0 gs k (a .count-is)
 
     pub weighing-taken : (top : ℕ) → top ≡ greatest limits → Weighing ms ds (take k P) (take k R) (take k L) h top floor
     weighing-taken top e = rw (places-taken, rooms-taken, lows-taken, e) (weighing-given floor (a .floor-is))

@@ -6,7 +6,7 @@ use Prim.Native.Nat.{ℕ, zero, suc, _+_, _-_, _*_, _^_, _≤_, _<_}
 use lib.Bits.{bitXor}
 use lib.Dec.{leb, eqb}
 use lib.ListN.{length, getD, take, set, replicate}
-use Rattle.circuit.specs.Lines.{greatest}
+use Rattle.circuit.specs.Lines.{padded, greatest}
 use Rattle.distance.specs.Base.{Line, lines, Small, Shallow, Gate, gate, made, run, weight}
 use Rattle.distance.specs.Distance.{gates}
 use Rattle.distance.specs.Table.{far, costAt, Holds}
@@ -33,10 +33,6 @@ Sounds (r ∷ rs) = Sound r × Sounds rs
 abbrev pub Alive : List Line → List Row → Type 0
 Alive ls [] = Unit {0}
 Alive ls (r ∷ rs) = ((g : ℕ) × (reach ls r ≡ gates g)) × Alive ls rs
-
--- an array of `cap` entries that begins with xs, and has zeros past them
-unfoldable pub padded : ℕ → List ℕ → List ℕ
-padded cap xs = xs ++ replicate (cap - length xs) 0
 
 -- ---- the table
 
@@ -101,9 +97,9 @@ pub record Goals (ps fs gs : List ℕ) : Type 0 where
 
 -- the goals of rows with these distances, in three arrays: how many, and the sum of the lows
 pub record Aimed (ts limits gaps places rooms lows : List ℕ) (k floor : ℕ) : Type 0 where
-  pub places-are : places ≡ padded 32 (toGo placeOf gaps ts)
-  pub rooms-are : rooms ≡ padded 32 (toGo roomOf gaps limits)
-  pub lows-are : lows ≡ padded 32 (toGo lowOf gaps ts)
+  pub places-are : places ≡ padded 32 0 (toGo placeOf gaps ts)
+  pub rooms-are : rooms ≡ padded 32 0 (toGo roomOf gaps limits)
+  pub lows-are : lows ≡ padded 32 0 (toGo lowOf gaps ts)
   pub count-is : k ≡ length (toGo lowOf gaps ts)
   pub floor-is : floor ≡ sum (toGo lowOf gaps ts)
 
@@ -176,7 +172,7 @@ pub record Poised (ts limits : List ℕ) (s : State) : Type 0 where
   pub small : Small 8 (base s)
   pub alive : Alive (base s) (rowsOf ts limits)
   pub near : sum (distances (base s) (rowsOf ts limits)) ≤ 4096
-  pub gaps-are : s .gaps ≡ padded 32 (distances (base s) (rowsOf ts limits))
+  pub gaps-are : s .gaps ≡ padded 32 0 (distances (base s) (rowsOf ts limits))
 
 -- the table of its base, for the distances that are left
 abbrev pub Tabled : List ℕ → List ℕ → State → List ℕ → Type 0
@@ -197,7 +193,7 @@ pub record Stepped (ts limits : List ℕ) (s r : State) (h : List ℕ) (i j : �
   pub wide : length (r .masks) ≡ 256
   pub deep : length (r .depths) ≡ 256
   pub shallow : Shallow (r .depths)
-  pub gaps-are : r .gaps ≡ padded 32 (distances (base r) (rowsOf ts limits))
+  pub gaps-are : r .gaps ≡ padded 32 0 (distances (base r) (rowsOf ts limits))
   pub tabled : Tabled ts limits r h
 
 -- the state after some steps from the base `first`
@@ -208,16 +204,16 @@ pub record Stands (first : List Line) (ts limits : List ℕ) (s : State) : Type 
   pub upto : s .count ≤ 224
   pub written : taken first (rowsOf ts limits) ≡ so-far ++ greedy (224 - s .count) (base s) (rowsOf ts limits)
   pub ran : run first (taken first (rowsOf ts limits)) ≡ run (base s) (greedy (224 - s .count) (base s) (rowsOf ts limits))
-  pub lefts : s .left ≡ padded 248 (map (λ (g : Gate). g .a) so-far)
-  pub rights : s .right ≡ padded 248 (map (λ (g : Gate). g .b) so-far)
+  pub lefts : s .left ≡ padded 248 0 (map (λ (g : Gate). g .a) so-far)
+  pub rights : s .right ≡ padded 248 0 (map (λ (g : Gate). g .b) so-far)
   pub few-inputs : length first ≤ 8
   pub long : s .len ≡ length first + s .count
 
 -- the end: all the gates, and all the lines
 pub record Grown (first : List Line) (rs : List Row) (s : State) : Type 0 where
   pub lines-are : base s ≡ run first (taken first rs)
-  pub lefts : s .left ≡ padded 248 (map (λ (g : Gate). g .a) (taken first rs))
-  pub rights : s .right ≡ padded 248 (map (λ (g : Gate). g .b) (taken first rs))
+  pub lefts : s .left ≡ padded 248 0 (map (λ (g : Gate). g .a) (taken first rs))
+  pub rights : s .right ≡ padded 248 0 (map (λ (g : Gate). g .b) (taken first rs))
   pub counted : s .count ≡ length (taken first rs)
   pub within : s .len < 256
 
@@ -233,7 +229,7 @@ pub record Begun (n : ℕ) (ts : List ℕ) (s : State) : Type 0 where
   pub masks-are : s .masks ≡ 1 ∷ 2 ∷ 4 ∷ 8 ∷ 16 ∷ 32 ∷ 64 ∷ 128 ∷ replicate 248 0
   pub depths-are : s .depths ≡ replicate 256 0
   pub long : s .len ≡ n
-  pub gaps-are : s .gaps ≡ padded 32 (map (λ (t : ℕ). weight n t - 1) ts)
+  pub gaps-are : s .gaps ≡ padded 32 0 (map (λ (t : ℕ). weight n t - 1) ts)
   pub lefts : s .left ≡ replicate 248 0
   pub rights : s .right ≡ replicate 248 0
   pub none : s .count ≡ 0

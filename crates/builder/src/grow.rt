@@ -1,7 +1,8 @@
 // The steps: the base grows by a gate until every row is made.
 ghost use mathlib.Core.Path.{_≡_};
 ghost use Prim.Native.Nat.{_≤_, _<_};
-ghost use Rattle.builder.specs.Kept.{rowsOf, padded, Capped, base, nextGap, nextGaps, Lowering, Poised, Tabled, Next, Stepped, Stands, Chosen, Grown};
+ghost use Rattle.circuit.specs.Lines.{padded};
+ghost use Rattle.builder.specs.Kept.{rowsOf, Capped, base, nextGap, nextGaps, Lowering, Poised, Tabled, Next, Stepped, Stands, Chosen, Grown};
 use crate::pairs::Turn;
 use crate::pairs::misses;
 use crate::pairs::next_gate;
@@ -38,7 +39,7 @@ fn lower(h: &[u32; 2304], gap: u8, t: u8, limit: u8, m: u8, c: u32) -> u8
 // The rows' distances after a line with mask m and cost c, by a look-up each.
 fn lowered(gaps: &[u8], rows: &[u8], limits: &[u8], h: &[u32; 2304], m: u8, c: u32) -> [u8; 32]
     requires { ⌜ Lowering (now gaps) (now rows) (now limits) (now h) c ⌝ }
-    ensures { λ r. ⌜ r ≡ padded 32 (nextGaps (now (h .entry)) m c (now (gaps .entry)) (now (rows .entry)) (now (limits .entry))) ⌝ }
+    ensures { λ r. ⌜ r ≡ padded 32 0 (nextGaps (now (h .entry)) m c (now (gaps .entry)) (now (rows .entry)) (now (limits .entry))) ⌝ }
 {
     let mut next = [0u8; 32];
     for i in 0..gaps.len() {

@@ -6,10 +6,11 @@ ghost use Prim.Native.Nat.{ℕ, _-_, _≤_};
 ghost use lib.ListN.{length};
 ghost use Rattle.circuit.specs.Stored.{held};
 ghost use Rattle.circuit.specs.declared.Answer.the-variants.{Done};
+ghost use Rattle.circuit.specs.Lines.{padded};
 ghost use Rattle.distance.specs.Base.{lines, weight};
 ghost use Rattle.builder.specs.Rule.{row, lowest as lowestOf};
 ghost use Rattle.builder.specs.Call.{built, refusal};
-ghost use Rattle.builder.specs.Kept.{rowsOf, padded, Fit, Begun};
+ghost use Rattle.builder.specs.Kept.{rowsOf, Fit, Begun};
 use crate::grow::State;
 use crate::grow::grow;
 use crate::look::weight_of;
@@ -18,7 +19,7 @@ use circuit::Circuit;
 // The rows' distances from the inputs: the weight less one.
 fn first_gaps(n: usize, rows: &[u8]) -> [u8; 32]
     requires { ⌜ Fit n (now rows) ⌝ }
-    ensures { λ r. ⌜ r ≡ padded 32 (map (λ (t : ℕ). weight n t - 1) (now (rows .entry))) ⌝ }
+    ensures { λ r. ⌜ r ≡ padded 32 0 (map (λ (t : ℕ). weight n t - 1) (now (rows .entry))) ⌝ }
 {
     let mut gaps = [0u8; 32];
     for i in 0..rows.len() {
@@ -71,7 +72,7 @@ fn lowest(masks: &[u8], depths: &[u8], t: u8, limit: u8) -> usize
 // The lines that the outputs name.
 fn outputs(masks: &[u8], depths: &[u8], rows: &[u8], limits: &[u8]) -> [u8; 32]
     requires { ⌜ length (now masks) ≡ length (now depths) ⌝ ∗ ⌜ length (now rows) ≡ length (now limits) ⌝ ∗ ⌜ length (now rows) ≤ 32 ⌝ ∗ ⌜ length (now masks) ≤ 256 ⌝ }
-    ensures { λ r. ⌜ r ≡ padded 32 (map (lowestOf (lines (now (masks .entry)) (now (depths .entry)))) (rowsOf (now (rows .entry)) (now (limits .entry)))) ⌝ }
+    ensures { λ r. ⌜ r ≡ padded 32 0 (map (lowestOf (lines (now (masks .entry)) (now (depths .entry)))) (rowsOf (now (rows .entry)) (now (limits .entry)))) ⌝ }
 {
     let mut outs = [0u8; 32];
     for i in 0..rows.len() {

@@ -72,8 +72,9 @@ map-upto {B} f h (suc j) = map-snoc f (upto h j) (h j) ∙ ap (λ (l : List B). 
   map-snoc f [] a = refl
   map-snoc f (x ∷ l) a = ap (λ (r : List B). f x ∷ r) (map-snoc f l a)
 
-padded : (l : List ℕ) (g cap : ℕ) → Padded l g cap → upto (λ (k : ℕ). getD l k 0) g ++ replicate (cap - g) 0 ≡ l
-padded l g cap p = ap (λ (r : List ℕ). r ++ replicate (cap - g) 0) (upto-take l 0 g (p .fits)) ∙ sym (p .zeros)
+-- a column with zeros past the first g is those g, filled up with zeros
+tidy-column : (l : List ℕ) (g cap : ℕ) → Padded l g cap → upto (λ (k : ℕ). getD l k 0) g ++ replicate (cap - g) 0 ≡ l
+tidy-column l g cap p = ap (λ (r : List ℕ). r ++ replicate (cap - g) 0) (upto-take l 0 g (p .fits)) ∙ sym (p .zeros)
 
 pub held-listed : (c : Circuit) → Tidy c → held (listed c) ≡ c
 held-listed c t =
@@ -84,8 +85,8 @@ held-listed c t =
     let r = map-upto (λ (q : Gate). q .right) (gateOf c) (c .g) in
     let a : held (listed c) ≡ record { n = c .n; m = c .m; g = c .g; kinds = upto (λ (k : ℕ). getD (c .kinds) k 0) (c .g) ++ replicate (248 - c .g) 0; left = upto (λ (k : ℕ). getD (c .left) k 0) (c .g) ++ replicate (248 - c .g) 0; right = upto (λ (k : ℕ). getD (c .right) k 0) (c .g) ++ replicate (248 - c .g) 0; outputs = upto (outOf c) (c .m) ++ replicate (32 - c .m) 0 } =
     λ i. record { n = c .n; m = lm i; g = lg i; kinds = k i ++ replicate (248 - lg i) 0; left = l i ++ replicate (248 - lg i) 0; right = r i ++ replicate (248 - lg i) 0; outputs = upto (outOf c) (c .m) ++ replicate (32 - lm i) 0 } in
-    let pk = padded (c .kinds) (c .g) 248 (t .kinds) in
-    let pl = padded (c .left) (c .g) 248 (t .left) in
-    let pr = padded (c .right) (c .g) 248 (t .right) in
-    let po = padded (c .outputs) (c .m) 32 (t .outputs) in
+    let pk = tidy-column (c .kinds) (c .g) 248 (t .kinds) in
+    let pl = tidy-column (c .left) (c .g) 248 (t .left) in
+    let pr = tidy-column (c .right) (c .g) 248 (t .right) in
+    let po = tidy-column (c .outputs) (c .m) 32 (t .outputs) in
     a ∙ (λ i. record { n = c .n; m = c .m; g = c .g; kinds = pk i; left = pl i; right = pr i; outputs = po i })

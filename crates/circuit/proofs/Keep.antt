@@ -8,7 +8,8 @@ use native.Mathlib.Omega.{arith}
 use lib.ListN.{length, getD, take, drop, set, replicate, take-append-drop, List·getD-append}
 use lib.Seq.{drop-cons, take-append-le, drop-at}
 use Rattle.circuit.specs.Lines.{Gate, reads, lines, reachStep}
-use Rattle.circuit.proofs.LineLaws.{made, lines-suc, lines-length, lines-more, lines-take, lines-at, lines-agree, same-made, same-lines, put-next, pad-read}
+use Rattle.circuit.proofs.LineLaws.{made, lines-suc, lines-length, lines-more, lines-take, lines-at, lines-agree, same-made, same-lines}
+use Rattle.circuit.proofs.Padding.{put-next, pad-read}
 
 -- each line read has a number below m
 abbrev pub Below : ℕ → List ℕ → Type 0

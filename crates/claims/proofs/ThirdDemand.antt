@@ -12,16 +12,16 @@ use Rattle.circuit.specs.declared.Answer.{Answer}
 use Rattle.circuit.specs.declared.Answer.the-variants.{Done, Refused}
 use Rattle.circuit.specs.declared.Words.{Words}
 use Rattle.circuit.specs.Gate.{noWords, valueIn}
-use Rattle.circuit.specs.Lines.{Listing, gateAt, depths, andDepths, values, words}
+use Rattle.circuit.specs.Lines.{Listing, gateAt, depths, andDepths, values, words, padded}
 use Rattle.circuit.specs.Stored.{stored}
-use Rattle.circuit.proofs.LineLaws.{pad-read}
 use Rattle.circuit.proofs.WordLaws.{words-values}
+use Rattle.circuit.proofs.Padding.{pad-read}
 use Rattle.bench.specs.declared.Bench.{Bench}
 use Rattle.bench.specs.declared.Edit.{Edit}
 use Rattle.bench.specs.declared.Reported.{Reported}
 use Rattle.bench.specs.Target.{Target, isMatrix}
 use Rattle.bench.specs.State.{Limits, State, Present, nothing, present}
-use Rattle.bench.specs.Held.{padded, emptyBench, fullBench, benchOf, Stands}
+use Rattle.bench.specs.Held.{emptyBench, fullBench, benchOf, Stands}
 use Rattle.bench.specs.Calls.{after, openAnswer, openState, gateEditAnswer, gateEdited, afterGate, gateEdit, editBy, readersOf, sizeOf, outputEditAnswer, outputEdited, entryEditAnswer, entryEdited, noRework, reported, GatePromise, OutputPromise, EntryPromise, LimitsPromise, ReportPromise}
 use Rattle.bench.specs.Run.{Call, afterCall, presentFrom, presentAfter, Runs}
 use Rattle.bench.specs.Run.Call.{opening, replacing, pointing, changing, limiting, reporting, storing}
@@ -173,7 +173,7 @@ module _ {b : Bench} {calls : List Call} (run : Runs emptyBench calls b) where
           andDepth = padding (andDepths (c .inputs) (gateAt c) (length (c .gates))) 0;
         })
       where
-        padding : {A : Type 0} (l : List A) (d : A) → getD (padded l 256 d) i d ≡ getD l i d
+        padding : {A : Type 0} (l : List A) (d : A) → getD (padded 256 d l) i d ≡ getD l i d
         padding l d = pad-read l (256 - length l) i d
 
     -- An edited gate lists as reworked that gate and every line that reads it, directly or through others, and no more: each once, in ascending order;

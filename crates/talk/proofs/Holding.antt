@@ -10,8 +10,8 @@ use Rattle.circuit.specs.declared.Refusal.the-variants.{NothingOpen}
 use Rattle.circuit.specs.Gate.{noWords, valueIn}
 use Rattle.circuit.specs.Lines.{upto, gateAt, depths, andDepths, words}
 use Rattle.circuit.proofs.Accept.{Shaped, shape-is}
-use Rattle.circuit.proofs.LineLaws.{pad-read}
 use Rattle.circuit.proofs.WordLaws.{words-values}
+use Rattle.circuit.proofs.Padding.{pad-read}
 use Rattle.bench.specs.declared.Bench.{Bench}
 use Rattle.bench.specs.State.{State, Sound, Present, nothing, present}
 use Rattle.bench.specs.Held.{emptyBench, fullBench, Stands}

@@ -4,8 +4,7 @@ ghost use mathlib.Core.List.{[], _∷_};
 ghost use Prim.Native.Nat.{_<_, _≤_, _^_};
 ghost use lib.ListN.{getD};
 ghost use Rattle.circuit.specs.Gate.{valueIn};
-ghost use Rattle.circuit.specs.Lines.{upto};
-ghost use Rattle.bench.specs.Held.{padded};
+ghost use Rattle.circuit.specs.Lines.{upto, padded};
 ghost use Rattle.talk.specs.Texts.{valueBytes, valueBits, byteOf};
 use circuit::Words;
 
@@ -59,7 +58,7 @@ fn value_byte(w: Words, n: usize, j: usize) -> u8
 // All the bytes, and zeros past the last.
 pub(crate) fn value_bytes(w: Words, n: usize) -> [u8; 32]
     requires { ⌜ n ≤ 8 ⌝ }
-    ensures { λ r. ⌜ r ≡ padded (upto (byteOf (valueIn w) n) (valueBytes n)) 32 0 ⌝ }
+    ensures { λ r. ⌜ r ≡ padded 32 0 (upto (byteOf (valueIn w) n) (valueBytes n)) ⌝ }
 {
     let count = byte_count(n);
     let mut bytes = [0u8; 32];

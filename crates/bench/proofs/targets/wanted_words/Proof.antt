@@ -8,8 +8,8 @@ use Prim.Native.Nat.{ℕ, _≤_, _-_}
 use lib.ListN.{set}
 use Rattle.circuit.specs.declared.Words.{Words}
 use Rattle.circuit.specs.Gate.{noWords}
-use Rattle.circuit.specs.Lines.{upto}
-use Rattle.bench.specs.Held.{padded, wantedWords}
+use Rattle.circuit.specs.Lines.{upto, padded}
+use Rattle.bench.specs.Held.{wantedWords}
 use Rattle.bench.specs.Target.{targetOf}
 use Rattle.bench.proofs.Packing.{upto-put}
 use Rattle.bench.proofs.targets.wanted_words.Statement.{statement}
@@ -19,7 +19,7 @@ abbrev want : Bool → List ℕ → ℕ → Words
 want only bytes = wantedWords (targetOf only bytes)
 
 abbrev Inv-loop : tie.InvT-loop
-Inv-loop only target m wanted₀ j₀ wanted j = (j ≤ m) × (wanted ≡ padded (upto (want only target) j) 32 noWords)
+Inv-loop only target m wanted₀ j₀ wanted j = (j ≤ m) × (wanted ≡ padded 32 noWords (upto (want only target) j))
 
 abbrev μ-loop : tie.MeasureT-loop
 μ-loop only target m wanted₀ j₀ wanted j = m - j
@@ -58,7 +58,7 @@ returns c =
     let h = c .before in
     let a = h .before .args in
     let e : h .loop .j ≡ a .m = omega arith in
-    h .loop .inv .1 ∙ ap (λ (j : ℕ). padded (upto (want (a .only) (a .target .now)) j) 32 noWords) e
+    h .loop .inv .1 ∙ ap (λ (j : ℕ). padded 32 noWords (upto (want (a .only) (a .target .now)) j)) e
 
 pub wanted-words-spec : {M : Type 1} → statement M
 wanted-words-spec =

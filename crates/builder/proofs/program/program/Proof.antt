@@ -5,9 +5,10 @@ use native.Mathlib.Omega.{arith}
 use borrow.Author.Needs.{needs}
 use lib.ListN.{length, take, replicate, length-replicate}
 use lib.Seq.{length-take-le}
+use Rattle.circuit.specs.Lines.{padded}
 use Rattle.distance.specs.Base.{Line, inputs}
 use Rattle.builder.specs.Rule.{Row, lowest}
-use Rattle.builder.specs.Kept.{rowsOf, padded, base, Grown, Fit}
+use Rattle.builder.specs.Kept.{rowsOf, base, Grown, Fit}
 use Rattle.builder.proofs.Refusals.{Accepted, accepted, fit}
 use Rattle.builder.proofs.Begin.{rows-within, begun-base, stands, circuit-held}
 use Rattle.builder.proofs.program.program.Statement.{statement}
@@ -71,7 +72,7 @@ returns c =
     let r = rows-within (a .d) (a .rows .now) (few (c .before .before .before .before .before .before .before .before .before .before .before .before) .few) in
     circuit-held (a .n) (a .rows .now) (a .d) s (c .outputs .result) (few (c .before .before .before .before .before .before .before .before .before .before .before .before) .few)
     (subst (λ (x : List Row). Grown (inputs (a .n)) x s) r (subst (λ (x : List Line). Grown x (rowsOf (a .rows .now) (take (length (a .rows .now)) (replicate 32 (a .d)))) s) (begun-base (a .n) (a .rows .now) (c .before .before .before .before .before .before .before .before .before .before .begin .result) (few (c .before .before .before .before .before .before .before .before .before .before .before .before) .inputs) (c .before .before .before .before .before .before .before .before .before .before .begin .ensures)) (c .before .before .before .before .before .before .before .before .grow .ensures)))
-    (c .outputs .ensures ∙ ap (λ (x : List Row). padded 32 (map (lowest (base s)) x)) r)
+    (c .outputs .ensures ∙ ap (λ (x : List Row). padded 32 0 (map (lowest (base s)) x)) r)
 
 pub program-spec : {M : Type 1} → statement M
 program-spec =

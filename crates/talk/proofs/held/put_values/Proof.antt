@@ -1,12 +1,11 @@
 -- `talk::held::put_values` meets its contract. Assumes nothing.
 use mathlib.Core.Path.{_≡_, ap, _∙_, sym}
-use Prim.Native.Nat.{_-_}
 use native.Mathlib.Omega.{arith}
-use lib.ListN.{length, take, replicate}
-use lib.Seq.{take-at}
+use lib.ListN.{length, take}
 use Rattle.circuit.specs.Gate.{valueIn}
 use Rattle.circuit.specs.Lines.{upto}
 use Rattle.circuit.proofs.Over.{upto-length}
+use Rattle.circuit.proofs.Padding.{padded-take}
 use Rattle.text.specs.Numbers.{hexText}
 use Rattle.text.proofs.Putting.{put-as, put-free}
 use Rattle.talk.specs.Texts.{valueBytes, byteOf, valuesText}
@@ -21,7 +20,7 @@ whole b =
     let a = b .before .before .before .args in
     let all = upto (byteOf (valueIn (a .w)) (a .n)) (valueBytes (a .n)) in
     ap (take (b .byte-count .result)) (b .before .value-bytes .ensures)
-    ∙ take-at all (replicate (32 - length all) 0) (b .byte-count .result) (upto-length (byteOf (valueIn (a .w)) (a .n)) (valueBytes (a .n)) ∙ sym (b .byte-count .ensures .0))
+    ∙ padded-take 32 0 all (b .byte-count .result) (b .byte-count .ensures .0 ∙ sym (upto-length (byteOf (valueIn (a .w)) (a .n)) (valueBytes (a .n))))
 
 -- how many they are
 size : (b : tie.After-byte-count) → b .byte-count .result ≡ length (take (b .byte-count .result) (b .before .value-bytes .result))

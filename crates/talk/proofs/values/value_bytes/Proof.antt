@@ -6,8 +6,7 @@ use native.Mathlib.Omega.{arith}
 use borrow.Author.Needs.{needs}
 use lib.ListN.{set}
 use Rattle.circuit.specs.Gate.{valueIn}
-use Rattle.circuit.specs.Lines.{upto}
-use Rattle.bench.specs.Held.{padded}
+use Rattle.circuit.specs.Lines.{upto, padded}
 use Rattle.bench.proofs.Packing.{upto-put}
 use Rattle.talk.specs.Texts.{valueBytes, byteOf}
 use Rattle.talk.proofs.values.value_bytes.Statement.{statement}
@@ -15,7 +14,7 @@ use Rattle.talk.proofs.values.value_bytes.Tie as tie
 
 abbrev Inv-loop : tie.InvT-loop
 Inv-loop w n count bytes₀ j₀ bytes j =
-    (j ≤ count) × (count ≤ 32) × (count ≡ valueBytes n) × (n ≤ 8) × (bytes ≡ padded (upto (byteOf (valueIn w) n) j) 32 0)
+    (j ≤ count) × (count ≤ 32) × (count ≡ valueBytes n) × (n ≤ 8) × (bytes ≡ padded 32 0 (upto (byteOf (valueIn w) n) j))
 
 abbrev μ-loop : tie.MeasureT-loop
 μ-loop w n count bytes₀ j₀ bytes j = count - j
@@ -55,7 +54,7 @@ returns c =
     let l = c .before .loop in
     let a = c .before .before .before .args in
     let e : l .j ≡ valueBytes (a .n) = omega arith in
-    l .inv .4 ∙ ap (λ (k : ℕ). padded (upto (byteOf (valueIn (a .w)) (a .n)) k) 32 0) e
+    l .inv .4 ∙ ap (λ (k : ℕ). padded 32 0 (upto (byteOf (valueIn (a .w)) (a .n)) k)) e
 
 pub value-bytes-spec : {M : Type 1} → statement M
 value-bytes-spec =
