@@ -91,9 +91,6 @@ module _ (n : ℕ) (ts : List ℕ) (D : ℕ) (room : List ℕ) where
       record { answer = w .answer ∙ a; bytes = w .bytes ∙ (λ i. roomAfter (a i) (s i) room) }
 
 -- ---- two results that meet a promise are equal
-pub plan-unique : (n : ℕ) (ts : List ℕ) (D : ℕ) (p q : Planned) → p ≡ planOf n ts D → q ≡ planOf n ts D → p ≡ q
-plan-unique n ts D p q a b = a ∙ sym b
-
 pub build-unique : (n : ℕ) (ts : List ℕ) (D : ℕ) (room : List ℕ) (r s : Writing) (out out′ : List ℕ) → Builds n ts D room r out → Builds n ts D room s out′ → (r ≡ s) × (out ≡ out′)
 build-unique n ts D room r s out out′ a b = (a .answer ∙ sym (b .answer), a .bytes ∙ sym (b .bytes))
 

@@ -11,6 +11,7 @@ use lib.Dec.{eqb}
 use lib.ListN.{length, getD, take, drop, set, length-set, length-map, length-append}
 use lib.Seq.{length-take-le, take-suc-set, getD-take}
 use Rattle.circuit.specs.Lines.{greatest, padded}
+use Rattle.circuit.proofs.Back.{map-snoc}
 use Rattle.circuit.proofs.Depths.{deeper-is}
 use Rattle.circuit.proofs.Padding.{padded-length, padded-take, padded-put}
 use Rattle.distance.specs.Base.{Line, line, lines, none, Gate, gate, made, run, Small, Shallow}
@@ -305,10 +306,6 @@ step : (f : ℕ) (ls : List Line) (rs : List Row) (x : Bool) → 0 < f → eqb (
     → greedy f ls rs ≡ cond x [] (nextGate ls rs ∷ greedy (f - 1) (ls ++ (made ls (nextGate ls rs) ∷ [])) rs)
 step zero ls rs x h e = absurd (omega arith)
 step (suc f) ls rs x h e = let p : suc f - 1 ≡ f = omega arith in rw (p, e)
-
-map-snoc : (f : Gate → ℕ) (l : List Gate) (g : Gate) → map f (l ++ (g ∷ [])) ≡ map f l ++ (f g ∷ [])
-map-snoc f [] g = refl
-map-snoc f (x ∷ l) g = ap (λ (r : List ℕ). f x ∷ r) (map-snoc f l g)
 
 module _ (first : List Line) (ts limits : List ℕ) (s : State) (z : Stands first ts limits s) where
   abbrev rows : List Row

@@ -7,16 +7,14 @@ use Prim.Native.Nat.{ℕ, zero, suc, _-_, _≤_, _<_}
 use lib.ListN.{length, getD}
 use Rattle.circuit.specs.declared.Answer.the-variants.{Done, Refused}
 use Rattle.circuit.specs.declared.Refusal.the-variants.{TooShallow}
-use Rattle.circuit.specs.declared.Writing.{Writing}
 use Rattle.circuit.specs.Lines.{gateAt, noGate, depthOf, outputOn, anyOf}
 use Rattle.circuit.specs.Stored.{stored}
 use Rattle.circuit.specs.Reading.{shaped, readStored}
 use Rattle.circuit.specs.Reading.Outcome.{found}
 use Rattle.circuit.proofs.Round.{read-stored}
 use Rattle.distance.specs.Base.{Line, Gate, Small, inputs, weight}
-use Rattle.builder.specs.declared.Planned.{Planned}
 use Rattle.builder.specs.Rule.{Row, distances, sum, nextGate, taken, xorGate, circuitOf}
-use Rattle.builder.specs.Call.{within, built, badRow, tooHeavy, refusal, planOf, Builds}
+use Rattle.builder.specs.Call.{within, built, badRow, tooHeavy, refusal}
 use Rattle.builder.specs.Matrix.{rowOn, Computes}
 use Rattle.builder.specs.Kept.{Sounds, Alive}
 use Rattle.builder.proofs.Refusals.{accepted}
@@ -69,10 +67,3 @@ module _ (n : ℕ) (ts : List ℕ) (D : ℕ) (shape : shaped n (length ts) 0 ≡
   -- and that is the same as no XOR program of that depth computing the matrix.
   pub too-shallow-is-no-program : (refusal n ts D ≡ Refused TooShallow) ↔ ((gs : List Gate) → Computes n ts D gs → ⊥)
   too-shallow-is-no-program = (solved.shallow-none n ts D shape rows depth, solved.none-shallow n ts D shape rows depth)
-
--- ---- Two results that meet a promise are equal: the answer, the circuit, and each lent byte.
-pub plan-determined : (n : ℕ) (ts : List ℕ) (D : ℕ) (p q : Planned) → p ≡ planOf n ts D → q ≡ planOf n ts D → p ≡ q
-plan-determined = promise.plan-unique
-
-pub build-determined : (n : ℕ) (ts : List ℕ) (D : ℕ) (room : List ℕ) (r s : Writing) (out out′ : List ℕ) → Builds n ts D room r out → Builds n ts D room s out′ → (r ≡ s) × (out ≡ out′)
-build-determined = promise.build-unique

@@ -1,35 +1,29 @@
 -- What a bench holds for its lines, said from its words, is what the circuit's lines have. Assumes nothing.
-use mathlib.Core.Path.{_≡_, refl, ap, ap₂, _∙_}
+use mathlib.Core.Path.{_≡_, refl, ap, _∙_}
 use mathlib.Core.Bool.{Bool, cond}
-use mathlib.Core.List.{List, [], _∷_, _++_}
-use Prim.Native.Nat.{ℕ, zero, suc, _+_, _-_, _*_, _≤_, _<_}
+use mathlib.Core.List.{List, _++_}
+use Prim.Native.Nat.{ℕ, _+_, _-_, _*_, _≤_, _<_}
 use native.Mathlib.Omega.{arith}
 use lib.ListN.{length, getD}
 use Rattle.circuit.specs.declared.Words.{Words}
 use Rattle.circuit.specs.declared.Refusal.the-variants.{NothingOpen}
 use Rattle.circuit.specs.Gate.{noWords, valueIn}
-use Rattle.circuit.specs.Lines.{upto, gateAt, depths, andDepths, words}
+use Rattle.circuit.specs.Lines.{gateAt, depths, andDepths, words}
 use Rattle.circuit.proofs.Accept.{Shaped, shape-is}
+use Rattle.circuit.proofs.Back.{upto-same}
 use Rattle.circuit.proofs.WordLaws.{words-values}
 use Rattle.circuit.proofs.Padding.{pad-read}
 use Rattle.bench.specs.declared.Bench.{Bench}
 use Rattle.bench.specs.State.{State, Sound, Present, nothing, present}
 use Rattle.bench.specs.Held.{emptyBench, fullBench, Stands}
 use Rattle.bench.proofs.Standing.{full-standing}
-use Rattle.text.specs.Numbers.{hexText}
-use Rattle.text.specs.Numbers.{labelled}
+use Rattle.text.specs.Numbers.{hexText, labelled}
 use Rattle.listing.specs.Printed.{newLine, refusedText}
 use Rattle.listing.proofs.Listed.{lines-same}
 use Rattle.talk.specs.Words.{heldName}
 use Rattle.talk.specs.Texts.{valueBytes, valueBits, byteOf, valuesText, groupText, lineOn, lineGroup, linesHeld, heldText}
 use Rattle.talk.specs.Saying.{groupIn, linesHeldIn, heldIn}
 use Rattle.talk.proofs.Packing.{packed-same, few-values}
-
--- what is the same one by one is the same together
-upto-same : {A : Type 0} (f h : ℕ → A) (j : ℕ) → ((k : ℕ) → k < j → f k ≡ h k) → upto f j ≡ upto h j
-unfolding upto
-upto-same f h zero e = refl
-upto-same {A} f h (suc j) e = ap₂ (λ (l : List A) (x : A). l ++ (x ∷ [])) (upto-same f h j (λ k l. e k (omega arith))) (e j (omega arith))
 
 -- values that agree on every input have one text
 values-same : (f h : ℕ → ℕ) (n : ℕ) → n ≤ 8 → ((x : ℕ) → x < 256 → f x ≡ h x) → valuesText f n ≡ valuesText h n

@@ -11,7 +11,7 @@ use lib.Dec.{ltb}
 use borrow.Author.Tests.{ltb-true, lt-ltb, le-ltb, le-leb, lt-leb}
 use lib.ListN.{length, getD, take, drop, drop-of-length-le, length-append}
 use lib.Seq.{drop-cons, take-suc}
-use Rattle.io.specs.Digits.{digits, glyph, Fewest}
+use Rattle.io.specs.Digits.{digits, Fewest}
 use Rattle.text.specs.declared.Number.{Number}
 use Rattle.text.specs.declared.Number.the-variants.{Value, Not}
 use Rattle.text.specs.Numbers.{isDigit, numFrom, numberIn, nibbleOf, allHex, hexBytes, bytesSaid, hexText, glyphOf, decText, decimalText, numbered, numbersText}
@@ -156,10 +156,6 @@ text-odd (x ∷ xs) (suc i) h = let e : 2 * suc i + 1 ≡ suc (suc (2 * i + 1)) 
 -- a number below 10 is its last digit
 mod-small : (n : ℕ) → n < 10 → n % 10 ≡ n
 mod-small n h = omega arith
-
--- the digit of a number below 10
-glyph-digit : (n : ℕ) → n < 10 → glyph n ≡ 48 + n
-glyph-digit n h = simp (lt-ltb n 10 h)
 
 -- the fewest digits that hold n, as `io` writes them, are n's decimal text
 pub digits-text : (f k n : ℕ) → k ≤ f → Fewest 10 1 n k → digits 10 k n ≡ decText f n
