@@ -1,8 +1,8 @@
 #!/usr/bin/env bash
 # Under valgrind the programs read and write nothing that is not theirs: the README's session, each kind of bad line, and matrices.
-set -u
+set -uo pipefail
 watch() { valgrind -q --error-exitcode=9 "$@" >/dev/null; }
-session=$(sed -n '/^```desk$/,/^```$/p' README.md | grep '^> ' | cut -c3-)
+session=$(sed -n '/^```desk$/,/^```$/p' README.md | grep '^> ' | cut -c3-) || exit 1
 {
     printf '%s\nheld\nnew\nreport\nshow\ngate 1 2\n\n# remark\nopen 5348 table - 0 0 0\n' "$session"
     printf 'distance 4 0102040807 0000000002 15 3\nentry 18446744073709551615 0\nentry 18446744073709551616 0\n'

@@ -1,8 +1,10 @@
 //! Random scripts in the call language of `desk`: sound calls, refused ones, and lines that are none.
 
-use crate::calls::any_target;
-use crate::circuits::{any_circuit, circuit, damaged, gate};
-use reference::circuit::write;
+use crate::calls::{self, Call, Present};
+use crate::met::{Kind, Met};
+use allpawasi::Limits;
+use reference::bench::Bench;
+use reference::desk;
 use reference::examine::Target;
 use reference::rng::Rng;
 
@@ -15,72 +17,77 @@ fn hex(rng: &mut Rng, bytes: &[u8]) -> String {
 }
 
 /// A number a person might type: small, at an edge, or as large as there is.
-fn number(rng: &mut Rng, small: u64) -> String {
+fn number(rng: &mut Rng, small: u64) -> usize {
     match rng.below(12) {
-        0 => [7, 15, 16, 247, 248, 255, 256, 300][rng.below(8) as usize].to_string(),
-        1 => [u64::MAX, u64::MAX - 1, 1 << 32][rng.below(3) as usize].to_string(),
-        2 => format!("00{}", rng.below(small)),
-        _ => rng.below(small).to_string(),
+        0 => [7, 15, 16, 247, 248, 255, 256, 300][rng.below(8) as usize],
+        1 => [usize::MAX, usize::MAX - 1, 1 << 32][rng.below(3) as usize],
+        _ => rng.below(small) as usize,
     }
 }
 
-fn open(rng: &mut Rng) -> String {
-    let only = rng.once_in(2);
-    let c = if rng.once_in(6) {
-        any_circuit(rng, only)
-    } else {
-        let (n, g, m) = (rng.between(1, 8) as u8, rng.below(30) as usize, rng.between(1, 8) as usize);
-        circuit(rng, n, g, m, only)
-    };
-    let bytes = if rng.once_in(4) { damaged(rng, &c) } else { write(&c) };
-    let target = any_target(rng, &c, only);
-    let (kind, list) = match &target {
-        Target::Matrix(rows) => ("matrix", rows),
-        Target::Table(entries) => ("table", entries),
-    };
-    let limits: Vec<String> = (0..3).map(|_| number(rng, 256)).collect();
-    format!("open {} {kind} {} {}", hex(rng, &bytes), hex(rng, list), limits.join(" "))
+/// Numbers as they are typed, now and then with zeros before them.
+fn typed(rng: &mut Rng, numbers: &[usize]) -> String {
+    let zeros = |rng: &mut Rng| if rng.once_in(12) { "00" } else { "" };
+    let words: Vec<String> = numbers.iter().map(|number| format!("{}{number}", zeros(rng))).collect();
+    words.join(" ")
 }
 
-fn edit_gate(rng: &mut Rng) -> String {
-    let k = rng.below(20);
-    let g = gate(rng, 4 + k as usize, false);
-    if rng.once_in(2) {
-        format!("gate {k} {} {} {}", g.kind, g.a, g.b)
-    } else {
-        format!("gate {} {} {} {}", number(rng, 20), number(rng, 8), number(rng, 20), number(rng, 20))
+/// Three limits, now and then one that is no byte.
+fn limits(rng: &mut Rng, limits: &Limits) -> String {
+    let mut numbers = [limits.gates, limits.depth, limits.and_depth].map(usize::from);
+    if rng.once_in(40) {
+        numbers[rng.below(3) as usize] += 256;
+    }
+    typed(rng, &numbers)
+}
+
+/// A call on the bench, by its name and as a line.
+fn on_bench(rng: &mut Rng, present: Option<&Present>) -> (&'static str, String) {
+    match calls::call(rng, present) {
+        Call::Open(bytes, target, three) => {
+            let (kind, list) = match &target {
+                Target::Matrix(rows) => ("matrix", rows),
+                Target::Table(entries) => ("table", entries),
+            };
+            ("open", format!("open {} {kind} {} {}", hex(rng, &bytes), hex(rng, list), limits(rng, &three)))
+        }
+        Call::Gate(numbers) => ("gate", format!("gate {}", typed(rng, &numbers))),
+        Call::Output(numbers) => ("output", format!("output {}", typed(rng, &numbers))),
+        Call::Entry(numbers) => ("entry", format!("entry {}", typed(rng, &numbers))),
+        Call::Limits(three) => ("limits", format!("limits {}", limits(rng, &three))),
+        Call::Store(length) => ("store", format!("store {}", typed(rng, &[length]))),
     }
 }
 
 fn build(rng: &mut Rng) -> String {
     let (n, m) = (rng.between(1, 8), rng.between(0, 12));
     let rows: Vec<u8> = (0..m).map(|_| rng.below(1 << n) as u8).collect();
-    let room = if rng.once_in(3) { number(rng, 200) } else { "2000".to_string() };
-    format!("build {} {} {} {room}", if rng.once_in(9) { number(rng, 12) } else { n.to_string() }, hex(rng, &rows), number(rng, 8))
+    let typed_n = if rng.once_in(9) { number(rng, 12) } else { n as usize };
+    let room = if rng.once_in(3) { number(rng, 200) } else { 2000 };
+    let d = number(rng, 8);
+    format!("build {} {} {}", typed(rng, &[typed_n]), hex(rng, &rows), typed(rng, &[d, room]))
 }
 
 fn distance(rng: &mut Rng) -> String {
     let (n, lines) = (rng.between(1, 8), rng.between(0, 20));
     let masks: Vec<u8> = (0..lines).map(|_| rng.below(1 << n) as u8).collect();
-    let depths: Vec<u8> = (0..lines).map(|_| rng.below(5) as u8).collect();
-    format!("distance {n} {} {} {} {}", hex(rng, &masks), hex(rng, &depths), number(rng, 1 << n), number(rng, 16))
+    let depths: Vec<u8> = (0..lines + rng.once_in(12) as u64).map(|_| rng.below(5) as u8).collect();
+    let typed_n = if rng.once_in(9) { number(rng, 12) } else { n as usize };
+    let (target, d) = (number(rng, 1 << n), number(rng, 16));
+    format!("distance {} {} {} {}", typed(rng, &[typed_n]), hex(rng, &masks), hex(rng, &depths), typed(rng, &[target, d]))
 }
 
-/// A line that is a call of the right form.
-fn call(rng: &mut Rng) -> String {
-    match rng.below(24) {
-        0 => "new".to_string(),
-        1..=4 => open(rng),
-        5..=7 => "report".to_string(),
-        8..=12 => edit_gate(rng),
-        13 | 14 => format!("output {} {}", number(rng, 8), number(rng, 30)),
-        15 | 16 => format!("entry {} {}", number(rng, 16), number(rng, 64)),
-        17 => format!("limits {} {} {}", number(rng, 256), number(rng, 256), number(rng, 256)),
-        18 => format!("store {}", number(rng, 400)),
-        19 => "held".to_string(),
-        20 => "show".to_string(),
-        21 => build(rng),
-        _ => distance(rng),
+/// A line that is a call of the right form, and the call's name.
+fn call(rng: &mut Rng, present: Option<&Present>) -> (&'static str, String) {
+    let alone = |name: &'static str| (name, name.to_string());
+    match rng.below(60) {
+        0 => alone("new"),
+        1..=16 => alone("report"),
+        17 | 18 => alone("held"),
+        19 | 20 => alone("show"),
+        21..=23 => ("build", build(rng)),
+        24..=27 => ("distance", distance(rng)),
+        _ => on_bench(rng, present),
     }
 }
 
@@ -107,12 +114,26 @@ fn spoiled(rng: &mut Rng, line: String) -> Vec<u8> {
     bytes
 }
 
-/// A script of so many lines. Some lines end in CR LF, the last may lack its LF, and a few are very long.
-pub fn script(rng: &mut Rng, lines: usize) -> Vec<u8> {
-    let mut out = Vec::new();
+/// The kind of an answer that is text: a refusal, a verdict, a word by itself, or that the call was done.
+pub fn kind(answer: &str) -> Kind {
+    let words: Vec<&str> = answer.split_whitespace().collect();
+    match words[..] {
+        ["refused", number] => Kind::Refused(number.parse().expect("a number")),
+        ["report", .., "wrong", _, _] => Kind::Says("wrong".to_string()),
+        ["report", .., verdict] | ["distance", verdict @ "none"] => Kind::Says(verdict.to_string()),
+        [] => Kind::Says("nothing".to_string()),
+        ["unreadable"] => Kind::Says("unreadable".to_string()),
+        _ => Kind::Done,
+    }
+}
+
+/// A script of so many lines; what each should be answered is counted. Some lines end in CR LF, and the last may lack its LF.
+pub fn script(rng: &mut Rng, lines: usize, met: &mut Met) -> Vec<u8> {
+    let (mut out, mut bench) = (Vec::new(), Bench::new());
     for _ in 0..lines {
-        let sound = call(rng);
-        let line = if rng.once_in(6) { spoiled(rng, sound) } else { sound.into_bytes() };
+        let (name, sound) = call(rng, bench.present.as_ref());
+        let (name, line) = if rng.once_in(6) { ("spoiled", spoiled(rng, sound)) } else { (name, sound.into_bytes()) };
+        met.count(name, kind(&desk::answer(&mut bench, &line)));
         out.extend(line);
         out.extend(if rng.once_in(9) { &b"\r\n"[..] } else { &b"\n"[..] });
     }

@@ -1,16 +1,18 @@
 //! The builder: refusals in their order, and the stored program byte for byte, with the room after it.
 
 use allpawasi::build;
+use compare::met::{Kind, Met};
 use reference::builder;
 use reference::rng::Rng;
 
 /// Both on the same matrix and rooms of the same length.
-fn compare(n: usize, rows: &[u8], d: usize, length: usize) {
+fn compare(met: &mut Met, n: usize, rows: &[u8], d: usize, length: usize) {
     let (mut room, mut other) = (vec![0xC3; length], vec![0xC3; length]);
     let ours = build(n, rows, d, &mut room);
     let theirs = builder::build_into(n as u64, rows, d as u64, &mut other).map_err(usize::from);
     assert_eq!(ours, theirs, "n {n} rows {rows:?} D {d} room {length}");
     assert_eq!(room, other, "room for n {n} rows {rows:?} D {d}");
+    met.answer("build", &ours, |_| Kind::Done);
 }
 
 /// Rows of one kind: any, few inputs, all inputs, single inputs, repeats.
@@ -33,19 +35,20 @@ fn rows(rng: &mut Rng, n: usize, m: usize) -> Vec<u8> {
 
 #[test]
 fn random_matrices() {
-    let mut rng = Rng::new(6);
+    let (mut rng, mut met) = (Rng::new(6), Met::default());
     for round in 0..24_000 {
         let n = 1 + round % 8;
         let m = if rng.once_in(8) { 32 } else { rng.between(1, 16) as usize };
         let d = rng.below(16) as usize;
         let length = if rng.once_in(10) { rng.below(300) as usize } else { 1341 };
-        compare(n, &rows(&mut rng, n, m), d, length);
+        compare(&mut met, n, &rows(&mut rng, n, m), d, length);
     }
+    met.ends("random matrices", "build", &[10, 11]);
 }
 
 #[test]
 fn refusals_in_their_order() {
-    let mut rng = Rng::new(7);
+    let (mut rng, mut met) = (Rng::new(7), Met::default());
     let wide = [0, 1, 2, 3, 8, 9, 15, 16, 255, 256, 300, usize::MAX];
     for _ in 0..20_000 {
         let n = if rng.once_in(3) { wide[rng.below(12) as usize] } else { rng.between(1, 8) as usize };
@@ -53,8 +56,9 @@ fn refusals_in_their_order() {
         let bound = if rng.once_in(3) { 256 } else { 1 << n.clamp(1, 8) };
         let list: Vec<u8> = (0..m).map(|_| rng.below(bound) as u8).collect();
         let d = if rng.once_in(2) { wide[rng.below(12) as usize] } else { rng.below(4) as usize };
-        compare(n, &list, d, [0, 4, 8, 100, 1341][rng.below(5) as usize]);
+        compare(&mut met, n, &list, d, [0, 4, 8, 100, 1341][rng.below(5) as usize]);
     }
+    met.ends("refusals of a build", "build", &[1, 8, 9, 10, 11]);
 }
 
 fn built(n: usize, rows: &[u8], d: usize) -> Result<Vec<u8>, usize> {
@@ -84,10 +88,12 @@ fn the_examples() {
 
 #[test]
 fn published_matrices() {
+    let mut met = Met::default();
     for line in include_str!("../../vectors/matrices.txt").lines() {
         let words: Vec<&str> = line.split(' ').collect();
         let n: usize = words[1].parse().expect("a number");
         let rows: Vec<u8> = (0..words[2].len() / 2).map(|i| u8::from_str_radix(&words[2][2 * i..2 * i + 2], 16).expect("hex")).collect();
-        (0..16).for_each(|d| compare(n, &rows, d, 1341));
+        (0..16).for_each(|d| compare(&mut met, n, &rows, d, 1341));
     }
+    met.ends("published matrices", "build", &[10]);
 }

@@ -1,8 +1,9 @@
 //! The linked programs beside the independent ones, in a stack of 1 MiB: random scripts and inputs, long lines, input that
 //! ends anywhere, bytes that mean nothing, and an output that nobody reads.
 
+use compare::met::Met;
 use compare::programs::{run, start};
-use compare::scripts::script;
+use compare::scripts::{kind, script};
 use reference::rng::Rng;
 use reference::{desk, program};
 use std::io::{Read, Write};
@@ -19,19 +20,35 @@ fn same(name: &str, input: &[u8], expected: &[u8]) {
     }
 }
 
+/// Each call of the language met each of its refusals, and each verdict was given.
+fn whole_language(met: &Met) {
+    met.whole_bench();
+    met.done_and_refused("held", &[13]);
+    met.done_and_refused("show", &[13]);
+    met.done_and_refused("build", &[1, 8, 9, 10, 11]);
+    met.done_and_refused("distance", &[1, 2, 8, 9]);
+    met.said("distance", &["none"]);
+    met.said("spoiled", &["unreadable", "nothing"]);
+}
+
 #[test]
 fn random_scripts() {
-    let mut rng = Rng::new(11);
+    let (mut rng, mut met) = (Rng::new(11), Met::default());
     for _ in 0..60 {
-        let text = script(&mut rng, 3_000);
+        let text = script(&mut rng, 3_000, &mut met);
         same("desk", &text, &desk::run(&text));
     }
+    met.show("random scripts");
+    whole_language(&met);
 }
 
 #[test]
 fn a_script_of_a_hundred_thousand_calls() {
-    let text = script(&mut Rng::new(12), 100_000);
+    let mut met = Met::default();
+    let text = script(&mut Rng::new(12), 100_000, &mut met);
     same("desk", &text, &desk::run(&text));
+    met.show("a script of a hundred thousand calls");
+    whole_language(&met);
 }
 
 #[test]
@@ -55,7 +72,7 @@ fn lines_around_the_longest() {
 #[test]
 fn input_that_ends_anywhere() {
     let mut rng = Rng::new(13);
-    let text = script(&mut rng, 60);
+    let text = script(&mut rng, 60, &mut Met::default());
     for _ in 0..400 {
         let end = rng.below(text.len() as u64 + 1) as usize;
         same("desk", &text[..end], &desk::run(&text[..end]));
@@ -74,7 +91,7 @@ fn bytes_that_mean_nothing() {
 
 #[test]
 fn random_matrices() {
-    let mut rng = Rng::new(15);
+    let (mut rng, mut met) = (Rng::new(15), Met::default());
     for _ in 0..600 {
         let n = rng.between(1, 8);
         let m = rng.between(1, 32);
@@ -91,8 +108,11 @@ fn random_matrices() {
             }
             _ => {}
         }
-        same("build", &input, &program::run(&input));
+        let expected = program::run(&input);
+        same("build", &input, &expected);
+        met.count("build", kind(&String::from_utf8_lossy(&expected)));
     }
+    met.ends("the build program on random matrices", "build", &[1, 2, 8, 9, 10]);
 }
 
 /// A person sees each answer before the next line is typed.

@@ -1,10 +1,10 @@
-//! The greedy builder from a matrix and a depth limit to an XOR program: the plain one, straight
-//! from the definition, and the fast one, which keeps a table of least sums of 2^depth.
+//! The greedy builder from a matrix and a depth limit to an XOR program. It keeps a table of least sums of
+//! 2^depth; `plain::builder` is the one straight from the definition.
 
 use crate::circuit::{self, Circuit, Gate, XOR};
-use crate::distance;
 
-fn check(n: u64, rows: &[u8], d: u64) -> Result<(), u8> {
+/// Refusals 1, 8, 9, 10 in that order.
+pub(crate) fn check(n: u64, rows: &[u8], d: u64) -> Result<(), u8> {
     if !(1..=8).contains(&n) || !(1..=32).contains(&rows.len()) {
         return Err(1);
     }
@@ -44,57 +44,6 @@ pub fn build(n: u64, rows: &[u8], d: u64) -> Result<Circuit, u8> {
 /// Builds into lent room, answering the length; a room too short is refused 11, last.
 pub fn build_into(n: u64, rows: &[u8], d: u64, room: &mut [u8]) -> Result<usize, u8> {
     circuit::store(&build(n, rows, d)?, room)
-}
-
-/// The same as `build` by the plain way: every candidate pair's distances from scratch.
-pub fn build_plain(n: u64, rows: &[u8], d: u64) -> Result<Circuit, u8> {
-    check(n, rows, d)?;
-    let d = d as u8;
-    let mut masks: Vec<u8> = (0..n).map(|i| 1 << i).collect();
-    let mut depths = vec![0u8; n as usize];
-    let mut pairs = Vec::new();
-    while let Some((i, j)) = plain_pair(&masks, &depths, rows, d) {
-        masks.push(masks[i] ^ masks[j]);
-        depths.push(depths[i].max(depths[j]) + 1);
-        pairs.push((i as u8, j as u8));
-    }
-    Ok(finish(n, rows, &masks, &pairs))
-}
-
-/// The pair the plain builder takes next, or none where every row is made.
-fn plain_pair(masks: &[u8], depths: &[u8], rows: &[u8], d: u8) -> Option<(usize, usize)> {
-    let distances = plain_distances(masks, depths, rows, d);
-    if distances.iter().all(|&distance| distance == 0) {
-        return None;
-    }
-    let lines = masks.len();
-    let mut pairs = (0..lines)
-        .flat_map(|i| (i + 1..lines).map(move |j| (i, j)))
-        .filter(|&(i, j)| depths[i].max(depths[j]) < d);
-    if let Some(near) = distances.iter().position(|&distance| distance == 1) {
-        return pairs.find(|&(i, j)| masks[i] ^ masks[j] == rows[near]);
-    }
-    let mut best = None;
-    for (i, j) in pairs {
-        let masks = [masks, &[masks[i] ^ masks[j]]].concat();
-        let depths = [depths, &[depths[i].max(depths[j]) + 1]].concat();
-        let after = plain_distances(&masks, &depths, rows, d);
-        let sum: u64 = after.iter().sum();
-        let squares: u64 = after.iter().map(|distance| distance * distance).sum();
-        let better = match best {
-            None => true,
-            Some((best_sum, best_squares, _)) => sum < best_sum || sum == best_sum && squares > best_squares,
-        };
-        if better {
-            best = Some((sum, squares, (i, j)));
-        }
-    }
-    best.map(|(_, _, pair)| pair)
-}
-
-fn plain_distances(masks: &[u8], depths: &[u8], rows: &[u8], d: u8) -> Vec<u64> {
-    let distance = |&row| distance::between(masks, depths, row, d).expect("a row stays in reach");
-    rows.iter().map(distance).collect()
 }
 
 /// No set, or one too deep: above 2^D whatever D is.

@@ -72,8 +72,8 @@ fn take_line(
     }
 }
 
-/// The whole answer to a line, ends of line included.
-fn answer(bench: &mut Bench, line: &[u8]) -> String {
+/// The whole answer, its ends of line included, to a line that is given without its end.
+pub fn answer(bench: &mut Bench, line: &[u8]) -> String {
     if line.len() > LONGEST_LINE {
         return "unreadable\n".to_string();
     }

@@ -159,6 +159,7 @@ fn sums_from(masks: &[u8], depths: &[u8]) -> Vec<Sums> {
 #[cfg(test)]
 mod tests {
     use super::*;
+    use crate::plain::builder::{self as plain, lines_of};
     use crate::rng::Rng;
 
     fn random_base(rng: &mut Rng, n: u64, lines: u64, deepest: u64) -> (Vec<u8>, Vec<u8>) {
@@ -202,19 +203,6 @@ mod tests {
         }
     }
 
-    /// All sets of one size in lexicographic order, the first that fits.
-    fn first_fit(base: &[(u8, u8)], from: usize, size: usize, target: u8, room: i64) -> Option<Vec<usize>> {
-        if size == 0 {
-            return (target == 0 && room >= 0).then(Vec::new);
-        }
-        (from..base.len()).find_map(|line| {
-            let (mask, depth) = base[line];
-            let mut set = first_fit(base, line + 1, size - 1, target ^ mask, room - (1 << depth))?;
-            set.insert(0, line);
-            Some(set)
-        })
-    }
-
     #[test]
     fn smallest_set_comes_first() {
         let mut rng = Rng::new(3);
@@ -223,35 +211,13 @@ mod tests {
             let lines = rng.between(1, 18);
             let (masks, depths) = random_base(&mut rng, n, lines, 3);
             let (target, d) = (rng.between(1, (1 << n) - 1), rng.below(6));
-            let base: Vec<(u8, u8)> = masks.iter().copied().zip(depths.iter().copied()).collect();
-            let plain =
-                (1..=lines.min(6) as usize).find_map(|size| first_fit(&base, 0, size, target as u8, 1 << d));
+            let base = lines_of(&masks, &depths);
+            let plain = plain::smallest_set(&base, target as u8, d as u8);
             let given = smallest_set(n, &masks, &depths, target, d).unwrap();
             assert_eq!(given, plain, "{base:?} {target} {d}");
             let distance = distance(n, &masks, &depths, target, d).unwrap();
             assert_eq!(distance, given.map(|set| set.len() as u64 - 1));
         }
-    }
-
-    /// Whether some XOR program of so many gates makes the target: the definition itself.
-    fn makes(base: &mut Vec<(u8, u8)>, gates: u64, target: u8, d: u8) -> bool {
-        if base.iter().any(|&(mask, depth)| mask == target && depth <= d) {
-            return true;
-        }
-        if gates == 0 {
-            return false;
-        }
-        for i in 0..base.len() {
-            for j in 0..=i {
-                base.push((base[i].0 ^ base[j].0, base[i].1.max(base[j].1) + 1));
-                let made = makes(base, gates - 1, target, d);
-                base.pop();
-                if made {
-                    return true;
-                }
-            }
-        }
-        false
     }
 
     #[test]
@@ -262,8 +228,8 @@ mod tests {
             let lines = rng.between(1, 5);
             let (masks, depths) = random_base(&mut rng, n, lines, 2);
             let (target, d) = (rng.between(1, (1 << n) - 1), rng.below(5));
-            let mut base: Vec<(u8, u8)> = masks.iter().copied().zip(depths.iter().copied()).collect();
-            let plain = (0..4).find(|&gates| makes(&mut base, gates, target as u8, d as u8));
+            let base = lines_of(&masks, &depths);
+            let plain = plain::distance_by_programs(&base, target as u8, d as u8, 3);
             let given = distance(n, &masks, &depths, target, d).unwrap();
             assert_eq!(given.filter(|&gates| gates < 4), plain, "{base:?} {target} {d}");
         }

@@ -248,23 +248,3 @@ pub fn readers(circuit: &Circuit, k: usize) -> Vec<usize> {
     }
     (n + k..circuit.lines()).filter(|&line| reached[line]).collect()
 }
-
-/// The plain slow evaluator, one input value at a time: the value of every line.
-pub fn slow_values(circuit: &Circuit, x: usize) -> Vec<bool> {
-    let mut values: Vec<bool> = (0..circuit.n).map(|i| x >> i & 1 == 1).collect();
-    for gate in &circuit.gates {
-        let a = values[gate.a as usize];
-        let b = || values[gate.b as usize];
-        let value = match gate.kind {
-            0 => a != b(),
-            1 => a == b(),
-            2 => a && b(),
-            3 => !(a && b()),
-            4 => a || b(),
-            5 => !(a || b()),
-            _ => !a,
-        };
-        values.push(value);
-    }
-    values
-}

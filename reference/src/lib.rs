@@ -8,5 +8,6 @@ pub mod desk;
 pub mod distance;
 pub mod examine;
 pub mod listing;
+pub mod plain;
 pub mod program;
 pub mod rng;

@@ -1,12 +1,13 @@
-//! The bench against plain models: slow evaluation, brute-force verdicts, readers by closure,
-//! refusals in order, and refused calls that change nothing.
+//! The bench against the plain ways: values, reports and readers; refusals in order, and refused calls that
+//! change nothing.
 
 mod common;
 
 use common::{random_circuit, random_gate, random_table};
 use reference::bench::Bench;
-use reference::circuit::{self, Circuit};
-use reference::examine::{examine, readers, slow_values, work, Limits, Target, Verdict};
+use reference::circuit;
+use reference::examine::{examine, readers, work, Limits, Target, Verdict};
+use reference::plain::bench as plain;
 use reference::rng::Rng;
 
 fn limits(gates: u8, depth: u8, and_depth: u8) -> Limits {
@@ -17,67 +18,15 @@ fn random_limits(rng: &mut Rng) -> Limits {
     limits(rng.below(40) as u8, rng.below(20) as u8, rng.below(8) as u8)
 }
 
-/// Depth and AND depth by following the operands back.
-fn slow_depths(circuit: &Circuit) -> Vec<(u8, u8)> {
-    let mut depths: Vec<(u8, u8)> = vec![(0, 0); circuit.n as usize];
-    for gate in &circuit.gates {
-        let mut deepest = depths[gate.a as usize];
-        if gate.kind != 6 {
-            let b = depths[gate.b as usize];
-            deepest = (deepest.0.max(b.0), deepest.1.max(b.1));
-        }
-        depths.push((deepest.0 + 1, deepest.1 + matches!(gate.kind, 2..=5) as u8));
-    }
-    depths
-}
-
-/// What a target asks of output j on input x.
-fn asked(target: &Target, x: usize, j: usize) -> bool {
-    match target {
-        Target::Matrix(rows) => (rows[j] as usize & x).count_ones() % 2 == 1,
-        Target::Table(entries) => entries[x] >> j & 1 == 1,
-    }
-}
-
-fn slow_verdict(circuit: &Circuit, target: &Target, limits: &Limits) -> Verdict {
-    for x in 0..1usize << circuit.n {
-        let values = slow_values(circuit, x);
-        for (j, &line) in circuit.outs.iter().enumerate() {
-            if values[line as usize] != asked(target, x, j) {
-                return Verdict::Wrong { input: x as u8, output: j as u8 };
-            }
-        }
-    }
-    let depths = slow_depths(circuit);
-    if circuit.gates.len() > limits.gates as usize {
-        Verdict::OverGates
-    } else if depths.iter().any(|depth| depth.0 > limits.depth) {
-        Verdict::OverDepth
-    } else if depths.iter().any(|depth| depth.1 > limits.and_depth) {
-        Verdict::OverAndDepth
-    } else {
-        Verdict::Pass
-    }
-}
-
-/// The target that the circuit meets, so that limits come into play.
-fn met_table(circuit: &Circuit) -> Target {
-    let entry = |x| {
-        let values = slow_values(circuit, x);
-        circuit.outs.iter().enumerate().map(|(j, &line)| (values[line as usize] as u8) << j).sum()
-    };
-    Target::Table((0..1usize << circuit.n).map(entry).collect())
-}
-
 #[test]
-fn lines_agree_with_slow_evaluation() {
+fn lines_agree_with_plain_evaluation() {
     let mut rng = Rng::new(10);
     for round in 0..300 {
         let (n, g) = (rng.between(1, 8), if round == 0 { 248 } else { rng.below(60) });
         let circuit = random_circuit(&mut rng, n, 1, g, false);
         let lines = work(&circuit);
         for x in 0..1usize << n {
-            let slow = slow_values(&circuit, x);
+            let slow = plain::values(&circuit, x);
             assert!((0..circuit.lines()).all(|line| lines.value(line, x) == slow[line]));
         }
         for x in 1usize << n..256 {
@@ -85,28 +34,25 @@ fn lines_agree_with_slow_evaluation() {
         }
         let depths: Vec<(u8, u8)> =
             lines.depths.iter().copied().zip(lines.and_depths.iter().copied()).collect();
-        assert_eq!(depths, slow_depths(&circuit));
+        assert_eq!(depths, plain::depths(&circuit));
     }
 }
 
 #[test]
-fn verdicts_agree_with_brute_force() {
+fn reports_agree_with_plain_ones() {
     let mut rng = Rng::new(11);
     let mut seen = [0; 5];
     for _ in 0..4000 {
         let (n, m, g) = (rng.between(1, 6), rng.between(1, 8), rng.below(30));
         let circuit = random_circuit(&mut rng, n, m, g, false);
-        let mut target = if rng.once_in(8) { random_table(&mut rng, n, m) } else { met_table(&circuit) };
+        let mut target =
+            if rng.once_in(8) { random_table(&mut rng, n, m) } else { plain::target_met(&circuit, false) };
         if let (Target::Table(entries), true) = (&mut target, rng.once_in(3)) {
             entries[rng.below(1 << n) as usize] ^= 1 << rng.below(m);
         }
         let limits = random_limits(&mut rng);
         let report = examine(&circuit, &target, &limits);
-        assert_eq!(report.verdict, slow_verdict(&circuit, &target, &limits));
-        let counts = [0u8..=1, 2..=5, 6..=6]
-            .map(|kinds| circuit.gates.iter().filter(|gate| kinds.contains(&gate.kind)).count() as u8);
-        assert_eq!([report.xors, report.nonlinear, report.nots], counts);
-        assert_eq!(report.gates as usize, circuit.gates.len());
+        assert_eq!(report, plain::examine(&circuit, &target, &limits));
         seen[match report.verdict {
             Verdict::Wrong { .. } => 0,
             Verdict::OverGates => 1,
@@ -119,45 +65,17 @@ fn verdicts_agree_with_brute_force() {
 }
 
 #[test]
-fn matrix_verdicts_agree_with_brute_force() {
+fn matrix_reports_agree_with_plain_ones() {
     let mut rng = Rng::new(12);
     for _ in 0..1000 {
         let (n, m) = (rng.between(1, 8), rng.between(1, 32));
         let mut circuit = reference::builder::build(n, &rng.rows(n, m), 15).unwrap();
-        let rows = circuit.outs.iter().map(|&line| masks(&circuit)[line as usize]).collect();
-        let target = Target::Matrix(rows);
+        let target = plain::target_met(&circuit, true);
         if rng.once_in(2) {
             circuit.outs[rng.below(m) as usize] = rng.below(circuit.lines() as u64) as u8;
         }
         let limits = limits(rng.below(90) as u8, rng.below(12) as u8, 0);
-        assert_eq!(examine(&circuit, &target, &limits).verdict, slow_verdict(&circuit, &target, &limits));
-    }
-}
-
-/// The inputs summed into each line of an XOR program.
-fn masks(circuit: &Circuit) -> Vec<u8> {
-    let mut masks: Vec<u8> = (0..circuit.n).map(|i| 1 << i).collect();
-    for gate in &circuit.gates {
-        masks.push(masks[gate.a as usize] ^ masks[gate.b as usize]);
-    }
-    masks
-}
-
-/// Readers by repeating the direct step until nothing is added.
-fn slow_readers(circuit: &Circuit, k: usize) -> Vec<usize> {
-    let n = circuit.n as usize;
-    let mut set = std::collections::BTreeSet::from([n + k]);
-    loop {
-        let before = set.len();
-        for (at, gate) in circuit.gates.iter().enumerate() {
-            let reads_b = gate.kind != 6 && set.contains(&(gate.b as usize));
-            if set.contains(&(gate.a as usize)) || reads_b {
-                set.insert(n + at);
-            }
-        }
-        if set.len() == before {
-            return set.into_iter().collect();
-        }
+        assert_eq!(examine(&circuit, &target, &limits), plain::examine(&circuit, &target, &limits));
     }
 }
 
@@ -176,7 +94,7 @@ fn edits_rework_the_readers_and_nothing_else_changes() {
             let before = work(&model);
             model.gates[k] = gate;
             let lines = bench.replace_gate(k as u64, gate.kind.into(), gate.a.into(), gate.b.into()).unwrap();
-            assert_eq!(lines, slow_readers(&model, k));
+            assert_eq!(lines, plain::readers(&model, k));
             assert_eq!(lines, readers(&model, k));
             let after = bench.held().unwrap();
             assert_eq!(after, work(&model));

@@ -1,8 +1,9 @@
 //! The fast builder against the plain one, and against what the definition says of a build.
 
-use reference::builder::{build, build_into, build_plain};
+use reference::builder::{build, build_into};
 use reference::circuit::write;
 use reference::examine::{examine, Limits, Target, Verdict};
+use reference::plain::builder::build as build_plain;
 use reference::rng::Rng;
 
 fn agree(n: u64, rows: &[u8], d: u64) {

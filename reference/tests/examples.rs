@@ -1,10 +1,11 @@
 //! The definition's examples K1 to K12 and its edges.
 
 use reference::bench::Bench;
-use reference::builder::{build, build_into, build_plain};
+use reference::builder::{build, build_into};
 use reference::circuit::{self, Circuit, Gate};
 use reference::distance::distance;
 use reference::examine::{work, Limits, Target, Verdict};
+use reference::plain::builder::build as build_plain;
 
 fn limits(gates: u8, depth: u8, and_depth: u8) -> Limits {
     Limits { gates, depth, and_depth }

@@ -1,0 +1,123 @@
+//! What a comparison met: how often each call gave each kind of answer. A comparison says nothing of a refusal or a verdict
+//! that it never met, so a test fails there. `cargo test -- --nocapture` shows the counts.
+
+use std::collections::BTreeMap;
+use std::fmt;
+
+use allpawasi::Verdict;
+
+/// The kinds of answer that are told apart.
+#[derive(Clone, Debug, PartialEq, Eq, PartialOrd, Ord)]
+pub enum Kind {
+    Done,
+    Says(String),
+    Refused(usize),
+}
+
+impl fmt::Display for Kind {
+    fn fmt(&self, f: &mut fmt::Formatter) -> fmt::Result {
+        match self {
+            Kind::Done => write!(f, "done"),
+            Kind::Says(words) => write!(f, "{words}"),
+            Kind::Refused(number) => write!(f, "refused {number}"),
+        }
+    }
+}
+
+/// The verdicts by name, `wrong` first.
+pub const VERDICTS: [&str; 5] = ["wrong", "over-gates", "over-depth", "over-anddepth", "pass"];
+
+/// The name of a verdict.
+pub fn verdict(verdict: &Verdict) -> Kind {
+    let name = match verdict {
+        Verdict::Wrong { .. } => VERDICTS[0],
+        Verdict::OverGates => VERDICTS[1],
+        Verdict::OverDepth => VERDICTS[2],
+        Verdict::OverAndDepth => VERDICTS[3],
+        Verdict::Pass => VERDICTS[4],
+    };
+    Kind::Says(name.to_string())
+}
+
+/// A distance that was found, or that there is none.
+pub fn gates(distance: &Option<u64>) -> Kind {
+    Kind::Says(distance.map_or("none".to_string(), |gates| gates.to_string()))
+}
+
+/// How often each call gave each kind of answer.
+#[derive(Default)]
+pub struct Met(BTreeMap<&'static str, BTreeMap<Kind, usize>>);
+
+impl Met {
+    pub fn count(&mut self, call: &'static str, kind: Kind) {
+        *self.0.entry(call).or_default().entry(kind).or_default() += 1;
+    }
+
+    /// Counts an answer by what is said of it where the call is done, or by its refusal.
+    pub fn answer<T>(&mut self, call: &'static str, answer: &Result<T, usize>, done: impl Fn(&T) -> Kind) {
+        self.count(call, answer.as_ref().map_or_else(|number| Kind::Refused(*number), done));
+    }
+
+    fn times(&self, call: &str, kind: &Kind) -> usize {
+        self.0.get(call).and_then(|kinds| kinds.get(kind)).copied().unwrap_or(0)
+    }
+
+    /// A line for each call.
+    pub fn show(&self, title: &str) {
+        println!("{title}:");
+        for (call, kinds) in &self.0 {
+            let list: Vec<String> = kinds.iter().map(|(kind, times)| format!("{kind} {times}")).collect();
+            println!("  {call}: {}", list.join(", "));
+        }
+    }
+
+    /// The call was refused with each of these numbers, and with no other.
+    pub fn refused(&self, call: &str, numbers: &[usize]) {
+        let of = |kind: &Kind| if let Kind::Refused(number) = kind { Some(*number) } else { None };
+        let met: Vec<usize> = self.0.get(call).into_iter().flat_map(|kinds| kinds.keys().filter_map(of)).collect();
+        assert_eq!(met, numbers, "the refusals that {call} met, and those it should meet");
+    }
+
+    /// The call was done too.
+    pub fn done_and_refused(&self, call: &str, numbers: &[usize]) {
+        let done = |kind: &Kind| !matches!(kind, Kind::Refused(_));
+        assert!(self.0.get(call).is_some_and(|kinds| kinds.keys().any(done)), "{call} was never done");
+        self.refused(call, numbers);
+    }
+
+    /// The end of a comparison of one call: what was met, and that it was done, and refused with just these numbers.
+    pub fn ends(&self, title: &str, call: &str, numbers: &[usize]) {
+        self.show(title);
+        self.done_and_refused(call, numbers);
+    }
+
+    /// The call said each of these.
+    pub fn said(&self, call: &str, words: &[&str]) {
+        self.said_at_least(call, words, 1);
+    }
+
+    fn said_at_least(&self, call: &str, words: &[&str], least: usize) {
+        for word in words {
+            let times = self.times(call, &Kind::Says(word.to_string()));
+            assert!(times >= least, "{call} said {word} {times} times, not {least}");
+        }
+    }
+
+    /// Each verdict is a tenth of the answers to a report at least.
+    pub fn verdicts(&self) {
+        let reports: usize = self.0["report"].values().sum();
+        self.said_at_least("report", &VERDICTS, reports.div_ceil(10));
+    }
+
+    /// Each call on a bench was refused with each of its numbers, and each verdict was given often.
+    pub fn whole_bench(&self) {
+        self.done_and_refused("open", &[1, 2, 3, 4, 5, 6, 7, 8]);
+        self.done_and_refused("gate", &[4, 5, 7, 12, 13]);
+        self.done_and_refused("output", &[6, 12, 13]);
+        self.done_and_refused("entry", &[8, 12, 13]);
+        self.done_and_refused("limits", &[13]);
+        self.done_and_refused("store", &[11, 13]);
+        self.done_and_refused("report", &[13]);
+        self.verdicts();
+    }
+}

@@ -1,0 +1,68 @@
+//! Random targets and limits, near to what a circuit computes and to its own numbers.
+
+use allpawasi::Limits;
+use reference::circuit::Circuit;
+use reference::examine::{work, Target};
+use reference::plain::bench::target_met;
+use reference::rng::Rng;
+
+/// The target that a circuit meets, most of the time; or that with one bit or byte another, or with a byte more or less.
+pub fn near_target(rng: &mut Rng, c: &Circuit, matrix: bool) -> Target {
+    let mut target = target_met(c, matrix);
+    let (Target::Matrix(bytes) | Target::Table(bytes)) = &mut target;
+    let at = rng.below(bytes.len() as u64) as usize;
+    match rng.below(16) {
+        0 => bytes.push(1),
+        1 => {
+            bytes.pop();
+        }
+        2 => bytes[at] = rng.below(256) as u8,
+        3 | 4 => bytes[at] ^= 1 << rng.below(if matrix { c.n.into() } else { c.outs.len().min(8) as u64 }),
+        _ => {}
+    }
+    target
+}
+
+fn any_limits(rng: &mut Rng) -> Limits {
+    let mut byte = || match rng.below(4) {
+        0 => 0,
+        1 => 255,
+        _ => rng.below(256) as u8,
+    };
+    Limits { gates: byte(), depth: byte(), and_depth: byte() }
+}
+
+/// A limit that a number keeps, often just so.
+fn kept(rng: &mut Rng, own: u8) -> u8 {
+    match rng.below(3) {
+        0 => own,
+        1 => own.saturating_add(1),
+        _ => rng.between(own.into(), 255) as u8,
+    }
+}
+
+/// A limit that a number is over, often just so. A number of 0 is over none.
+fn passed(rng: &mut Rng, own: u8) -> u8 {
+    if own == 0 || rng.once_in(2) {
+        own.saturating_sub(1)
+    } else {
+        rng.below(own.into()) as u8
+    }
+}
+
+/// Limits near the circuit's own numbers, now and then any: it is over one of them and keeps those before that, or it keeps
+/// all. Only with nonlinear gates can it be over the AND depth, so it often is.
+pub fn near_limits(rng: &mut Rng, c: &Circuit) -> Limits {
+    let mut limits = any_limits(rng);
+    if rng.once_in(16) {
+        return limits;
+    }
+    let lines = work(c);
+    let own = [c.gates.len() as u8, lines.depth(), lines.and_depth()];
+    let over = if own[2] == 0 { [0, 1, 3][rng.below(3) as usize] } else { [0, 1, 2, 2, 3][rng.below(5) as usize] };
+    let places = [&mut limits.gates, &mut limits.depth, &mut limits.and_depth];
+    for (at, place) in places.into_iter().enumerate().take(over + 1) {
+        *place = if at < over { kept(rng, own[at]) } else { passed(rng, own[at]) };
+    }
+    limits
+}

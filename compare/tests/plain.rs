@@ -1,0 +1,109 @@
+//! The library beside the plain ways of the independent program, which keep no table and hold no words: the builder and the
+//! distance by every set of lines, the distance by every program, and circuits worked input value by input value.
+
+use allpawasi::distance;
+use compare::calls::{concerning, Call};
+use compare::circuits::{circuit, point_at_sums};
+use compare::met::{gates, Kind, Met};
+use compare::pair::{our_report, value, Pair};
+use compare::targets::{near_limits, near_target};
+use reference::circuit::write;
+use reference::plain::{bench, builder};
+use reference::rng::Rng;
+
+/// Matrices of 8 inputs and 16 to 32 rows, at every depth at which each row is in reach, byte for byte.
+#[test]
+fn matrices_of_eight_inputs() {
+    let (mut rng, mut met) = (Rng::new(21), Met::default());
+    for round in 0..260 {
+        let (m, d) = (rng.between(16, 32), 3 + round % 13);
+        let rows = rng.rows(8, m);
+        let mut room = [0; 1341];
+        let count = allpawasi::build(8, &rows, d, &mut room);
+        let plain = builder::build(8, &rows, d as u64).map_err(usize::from);
+        met.answer("build", &count, |_| Kind::Done);
+        assert_eq!(count.map(|count| room[..count].to_vec()), plain.map(|c| write(&c)), "rows {rows:?} D {d}");
+    }
+    met.ends("plain builds", "build", &[]);
+}
+
+/// Bases of up to so many lines, with a target and a depth.
+fn query(rng: &mut Rng, lines: u64) -> (usize, Vec<u8>, Vec<u8>, u8, u8) {
+    let (n, lines) = (rng.between(1, 8), rng.between(1, lines));
+    let masks = (0..lines).map(|_| rng.below(1 << n) as u8).collect();
+    let depths = (0..lines).map(|_| rng.below(4) as u8).collect();
+    (n as usize, masks, depths, rng.between(1, (1 << n) - 1) as u8, rng.below(7) as u8)
+}
+
+#[test]
+fn distances_by_every_set() {
+    let (mut rng, mut met) = (Rng::new(22), Met::default());
+    for _ in 0..4_000 {
+        let (n, masks, depths, target, d) = query(&mut rng, 14);
+        let ours = distance(n, &masks, &depths, target.into(), d.into());
+        let plain = builder::distance(&builder::lines_of(&masks, &depths), target, d);
+        assert_eq!(ours, Ok(plain), "masks {masks:?} depths {depths:?} target {target} D {d}");
+        met.answer("distance", &ours, gates);
+    }
+    met.ends("distances by every set", "distance", &[]);
+    met.said("distance", &["none", "0", "1", "2", "3", "4", "5"]);
+}
+
+/// The definition itself, as far as three gates.
+#[test]
+fn distances_by_every_program() {
+    let (mut rng, mut met) = (Rng::new(23), Met::default());
+    for _ in 0..2_000 {
+        let (n, masks, depths, target, d) = query(&mut rng, 5);
+        let ours = distance(n, &masks, &depths, target.into(), d.into()).map(|gates| gates.filter(|&gates| gates <= 3));
+        let plain = builder::distance_by_programs(&builder::lines_of(&masks, &depths), target, d, 3);
+        assert_eq!(ours, Ok(plain), "masks {masks:?} depths {depths:?} target {target} D {d}");
+        met.answer("distance", &ours, gates);
+    }
+    met.ends("distances by every program", "distance", &[]);
+    met.said("distance", &["none", "0", "1", "2", "3"]);
+}
+
+/// What is held and reported of what is present, worked input value by input value.
+fn as_worked_plainly(pair: &Pair) {
+    let Some((c, target, limits)) = &pair.theirs.present else { return };
+    let (depths, and_depths, words) = pair.ours.held();
+    assert_eq!(builder::lines_of(depths, and_depths), bench::depths(c));
+    for x in 0..1 << c.n {
+        assert!(words.iter().map(|line| value(line, x)).eq(bench::values(c, x)), "values on {x} of {c:?}");
+    }
+    assert_eq!(pair.ours.report(), Ok(our_report(bench::examine(c, target, limits))));
+}
+
+/// A call, and where it replaced a gate its list of lines.
+fn make(pair: &mut Pair, call: &Call) {
+    let Call::Gate(numbers) = call else { return pair.make(call) };
+    if let Ok(reworked) = pair.replace_gate(*numbers) {
+        let (c, _, _) = pair.theirs.present.as_ref().expect("a gate was replaced");
+        let readers = bench::readers(c, numbers[0]);
+        assert!(reworked.into_iter().map(usize::from).eq(readers), "readers of gate {} of {c:?}", numbers[0]);
+    }
+}
+
+/// Circuits of 8 inputs, 248 gates and 8 outputs, opened and edited.
+#[test]
+fn circuits_of_the_most_gates() {
+    let (mut rng, mut pair) = (Rng::new(24), Pair::default());
+    for round in 0..200 {
+        let matrix = round % 2 == 0;
+        let mut c = circuit(&mut rng, 8, 248, 8, matrix);
+        if matrix {
+            point_at_sums(&mut rng, &mut c);
+        }
+        let mut call = Call::Open(write(&c), near_target(&mut rng, &c, matrix), near_limits(&mut rng, &c));
+        for _ in 0..8 {
+            make(&mut pair, &call);
+            pair.look();
+            as_worked_plainly(&pair);
+            let (c, target, _) = pair.theirs.present.as_ref().expect("the first open is sound");
+            call = concerning(&mut rng, c, target.xor_only());
+        }
+    }
+    pair.met.show("circuits of 248 gates");
+    pair.met.verdicts();
+}

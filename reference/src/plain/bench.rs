@@ -1,0 +1,122 @@
+//! Values, depths, verdict and readers, worked input value by input value and gate by gate.
+
+use std::collections::BTreeSet;
+
+use crate::circuit::{Circuit, Gate, NOT};
+use crate::examine::{Limits, Report, Target, Verdict};
+
+/// The value of every line on one input value.
+pub fn values(circuit: &Circuit, x: usize) -> Vec<bool> {
+    let mut values: Vec<bool> = (0..circuit.n).map(|i| x >> i & 1 == 1).collect();
+    for gate in &circuit.gates {
+        let a = values[gate.a as usize];
+        let b = || values[gate.b as usize];
+        let value = match gate.kind {
+            0 => a != b(),
+            1 => a == b(),
+            2 => a && b(),
+            3 => !(a && b()),
+            4 => a || b(),
+            5 => !(a || b()),
+            _ => !a,
+        };
+        values.push(value);
+    }
+    values
+}
+
+/// The depth and the AND depth of every line.
+pub fn depths(circuit: &Circuit) -> Vec<(u8, u8)> {
+    let mut depths: Vec<(u8, u8)> = vec![(0, 0); circuit.n as usize];
+    for gate in &circuit.gates {
+        let mut deepest = depths[gate.a as usize];
+        if gate.kind != NOT {
+            let b = depths[gate.b as usize];
+            deepest = (deepest.0.max(b.0), deepest.1.max(b.1));
+        }
+        depths.push((deepest.0 + 1, deepest.1 + matches!(gate.kind, 2..=5) as u8));
+    }
+    depths
+}
+
+/// The target that a circuit meets: its outputs on every input value, or the inputs summed into each
+/// output of an XOR program, which are those that alone make it 1. A table has eight outputs at most.
+pub fn target_met(circuit: &Circuit, matrix: bool) -> Target {
+    let outputs = |x| {
+        let values = values(circuit, x);
+        circuit.outs.iter().map(|&line| values[line as usize] as u8).collect::<Vec<u8>>()
+    };
+    if matrix {
+        let alone: Vec<Vec<u8>> = (0..circuit.n).map(|i| outputs(1 << i)).collect();
+        let row = |j: usize| alone.iter().enumerate().map(|(i, outputs)| outputs[j] << i).sum();
+        Target::Matrix((0..circuit.outs.len()).map(row).collect())
+    } else {
+        let entry = |x| outputs(x).iter().take(8).enumerate().map(|(j, value)| value << j).sum();
+        Target::Table((0..1 << circuit.n).map(entry).collect())
+    }
+}
+
+/// What a target asks of output j on an input value.
+fn asked(target: &Target, x: usize, j: usize) -> bool {
+    match target {
+        Target::Matrix(rows) => (rows[j] as usize & x).count_ones() % 2 == 1,
+        Target::Table(entries) => entries[x] >> j & 1 == 1,
+    }
+}
+
+fn first_wrong(circuit: &Circuit, target: &Target) -> Option<Verdict> {
+    (0..1 << circuit.n).find_map(|x| {
+        let values = values(circuit, x);
+        let differs = |j: &usize| values[circuit.outs[*j] as usize] != asked(target, x, *j);
+        let output = (0..circuit.outs.len()).find(differs)?;
+        Some(Verdict::Wrong { input: x as u8, output: output as u8 })
+    })
+}
+
+/// The whole report.
+pub fn examine(circuit: &Circuit, target: &Target, limits: &Limits) -> Report {
+    let depths = depths(circuit);
+    let depth = depths.iter().map(|line| line.0).max().unwrap_or(0);
+    let and_depth = depths.iter().map(|line| line.1).max().unwrap_or(0);
+    let count = |kinds: std::ops::RangeInclusive<u8>| {
+        circuit.gates.iter().filter(|gate| kinds.contains(&gate.kind)).count() as u8
+    };
+    let gates = circuit.gates.len() as u8;
+    let over = if gates > limits.gates {
+        Verdict::OverGates
+    } else if depth > limits.depth {
+        Verdict::OverDepth
+    } else if and_depth > limits.and_depth {
+        Verdict::OverAndDepth
+    } else {
+        Verdict::Pass
+    };
+    let verdict = first_wrong(circuit, target).unwrap_or(over);
+    Report {
+        gates,
+        xors: count(0..=1),
+        nonlinear: count(2..=5),
+        nots: count(6..=6),
+        depth,
+        and_depth,
+        verdict,
+    }
+}
+
+/// The lines an edit of gate k reworks, by adding what reads one of them until nothing is added.
+pub fn readers(circuit: &Circuit, k: usize) -> Vec<usize> {
+    let n = circuit.n as usize;
+    let mut set = BTreeSet::from([n + k]);
+    loop {
+        let reads = |gate: &Gate| {
+            let reads_b = gate.kind != NOT && set.contains(&(gate.b as usize));
+            reads_b || set.contains(&(gate.a as usize))
+        };
+        let more: Vec<usize> = (0..circuit.gates.len()).filter(|&at| reads(&circuit.gates[at])).collect();
+        let before = set.len();
+        set.extend(more.iter().map(|at| n + at));
+        if set.len() == before {
+            return set.into_iter().collect();
+        }
+    }
+}
