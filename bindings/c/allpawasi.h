@@ -5,7 +5,8 @@
  *
  * A bench is lent to each call and changed where it stands. A bench of zeros has nothing open:
  *     allpawasi_bench bench = {0};
- * Change it by these calls alone. A refused call leaves it, and each lent byte, exactly as it was.
+ * Change it by these calls alone. A refused call leaves it, and each lent byte, exactly as it was. An open takes a bench whatever it holds, as long as its two bools are 0 or 1:
+ * accepted, it leaves the right one; refused, the one it was given.
  *
  * Refusals are the definition's numbers: 1 shape, 2 length, 3 mark, 4 kind, 5 operand, 6 no such line, 7 not XOR under a
  * matrix, 8 target, 9 depth above 15, 10 too shallow, 11 room too short, 12 not there, 13 nothing open. */

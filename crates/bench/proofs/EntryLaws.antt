@@ -21,7 +21,7 @@ use Rattle.circuit.proofs.Accept.{Shaped, past, both}
 use Rattle.circuit.proofs.Padding.{pad-read, padded-set}
 use Rattle.bench.specs.declared.Bench.{Bench}
 use Rattle.bench.specs.declared.Edited.{Edited}
-use Rattle.bench.specs.Target.{Target, matrix, table, isMatrix, bytesOf, rowFits, entryFits, allOf, targetFits, targetOf}
+use Rattle.bench.specs.Target.{Target, matrix, table, isMatrix, targetBytes, rowFits, entryFits, allOf, targetFits, targetOf}
 use Rattle.bench.specs.State.{State, Sound, Present, nothing, present}
 use Rattle.bench.specs.Held.{packed, rowWords, wantedWords, emptyBench, fullBench, benchOf, Stands}
 use Rattle.bench.specs.Calls.{after, entryAnswer, entryEditAnswer, withEntry, entryEdited, afterEntry, EntryPromise}
@@ -32,7 +32,7 @@ use Rattle.bench.proofs.EditLaws.{edit-refused, edit-done}
 
 -- ---- what a target wants, from its bytes with zeros past the last
 
-pub wanted-padded : (t : Target) (j : ℕ) → wantedWords (targetOf (isMatrix t) (padded 256 0 (bytesOf t))) j ≡ wantedWords t j
+pub wanted-padded : (t : Target) (j : ℕ) → wantedWords (targetOf (isMatrix t) (padded 256 0 (targetBytes t))) j ≡ wantedWords t j
 unfolding wantedWords
 wanted-padded (matrix rows) j = ap (rowWords 8) (pad-read rows (256 - length rows) j 0)
 wanted-padded (table entries) j =
@@ -72,7 +72,7 @@ retargeted b T w =
 abbrev pub aimed : Bench → List ℕ → Bench
 aimed b T = retargeted b T (padded 32 noWords (upto (wantedWords (targetOf (b .«is_matrix») T)) (b .m)))
 
-aimed-full : (s : State) (t : Target) (T : List ℕ) → isMatrix (s .target) ≡ isMatrix t → T ≡ padded 256 0 (bytesOf t)
+aimed-full : (s : State) (t : Target) (T : List ℕ) → isMatrix (s .target) ≡ isMatrix t → T ≡ padded 256 0 (targetBytes t)
     → aimed (fullBench s) T ≡ fullBench (record { circuit = s .circuit; target = t; limits = s .limits })
 unfolding fullBench
 aimed-full s t T same e =
@@ -122,7 +122,7 @@ entry-fits opened only n m g i value h =
 
 -- the entry is there, its value is a byte, and the target that it makes keeps its rule
 pub record EntryRight (n m i value : ℕ) (t : Target) : Type 0 where
-  pub there : i < length (bytesOf t)
+  pub there : i < length (targetBytes t)
   pub small : value < 256
   pub fits : targetFits n m (withEntry t i value) ≡ true
 
@@ -214,8 +214,8 @@ module _ (i value : ℕ) where
   unfolding fullBench
   entry-entered s r =
       aimed-full s (withEntry (s .target) i value) _ (same-kind (s .target))
-      (ap (set (padded 256 0 (bytesOf (s .target))) i) (mod-eq-of-lt (r .small)) ∙ padded-set 256 0 (bytesOf (s .target)) i value (r .there) ∙ bytes (s .target)) where
-        bytes : (t : Target) → padded 256 0 (set (bytesOf t) i value) ≡ padded 256 0 (bytesOf (withEntry t i value))
+      (ap (set (padded 256 0 (targetBytes (s .target))) i) (mod-eq-of-lt (r .small)) ∙ padded-set 256 0 (targetBytes (s .target)) i value (r .there) ∙ bytes (s .target)) where
+        bytes : (t : Target) → padded 256 0 (set (targetBytes t) i value) ≡ padded 256 0 (targetBytes (withEntry t i value))
         bytes (matrix rows) = refl
         bytes (table entries) = refl
 

@@ -12,7 +12,7 @@ use Rattle.circuit.proofs.Depths.{deeper-is}
 use Rattle.circuit.proofs.Operands.{second, depth-two, and-two, words-two}
 use Rattle.circuit.proofs.Padding.{put-next, pad-read, pad-next, padded-same}
 use Rattle.bench.specs.declared.Bench.{Bench}
-use Rattle.bench.specs.Parts.{gateOf, holding, entries, examinedAs, examined}
+use Rattle.bench.specs.Parts.{gateOn, holding, entries, examinedAs, examined}
 
 -- ---- an array with an entry a line
 
@@ -62,21 +62,21 @@ pub record Stored (q : Gate) (c : Bench) (x y d a : ℕ) (w : Words) : Type 0 wh
 
 -- a bench holds at x what line z has after the gates below j
 pub record Shows (b c : Bench) (j x z : ℕ) : Type 0 where
-  pub depth : getD (c .depths) x 0 ≡ getD (depths (b .n) (gateOf b) j) z 0
-  pub and : getD (c .«and_depths») x 0 ≡ getD (andDepths (b .n) (gateOf b) j) z 0
-  pub value : getD (c .values) x noWords ≡ getD (words (b .n) (gateOf b) j) z noWords
+  pub depth : getD (c .depths) x 0 ≡ getD (depths (b .n) (gateOn b) j) z 0
+  pub and : getD (c .«and_depths») x 0 ≡ getD (andDepths (b .n) (gateOn b) j) z 0
+  pub value : getD (c .values) x noWords ≡ getD (words (b .n) (gateOn b) j) z noWords
 
 -- what gate j has
 pub record Makes (b : Bench) (j d a : ℕ) (w : Words) : Type 0 where
-  pub depth : d ≡ made depthStep 0 (replicate (b .n) 0) (gateOf b) j
-  pub and : a ≡ made andStep 0 (replicate (b .n) 0) (gateOf b) j
-  pub value : w ≡ made wordsStep noWords (take (b .n) inputWords) (gateOf b) j
+  pub depth : d ≡ made depthStep 0 (replicate (b .n) 0) (gateOn b) j
+  pub and : a ≡ made andStep 0 (replicate (b .n) 0) (gateOn b) j
+  pub value : w ≡ made wordsStep noWords (take (b .n) inputWords) (gateOn b) j
 
 -- what is stored is what the gate has, since no depth reaches the byte's end
-pub stored-makes : (b c : Bench) (j x y d a : ℕ) (w : Words) → j < 248 → Shows b c j x (gateOf b j .left) → Shows b c j y (second (gateOf b j))
-    → Stored (gateOf b j) c x y d a w → Makes b j d a w
+pub stored-makes : (b c : Bench) (j x y d a : ℕ) (w : Words) → j < 248 → Shows b c j x (gateOn b j .left) → Shows b c j y (second (gateOn b j))
+    → Stored (gateOn b j) c x y d a w → Makes b j d a w
 stored-makes b c j x y d a w h l r s =
-    let Q = gateOf b in
+    let Q = gateOn b in
     let q = Q j in
     let n = b .n in
     record {
@@ -100,8 +100,8 @@ put c at d a w = holding c (set (c .depths) at d) (set (c .«and_depths») at a)
 -- the bench with the first j gates' lines examined
 unfoldable pub examinedTo : Bench → ℕ → Bench
 examinedTo b j =
-    holding b (entries depthStep 0 (replicate (b .n) 0) (gateOf b) (b .n) j) (entries andStep 0 (replicate (b .n) 0) (gateOf b) (b .n) j)
-    (entries wordsStep noWords (take (b .n) inputWords) (gateOf b) (b .n) j)
+    holding b (entries depthStep 0 (replicate (b .n) 0) (gateOn b) (b .n) j) (entries andStep 0 (replicate (b .n) 0) (gateOn b) (b .n) j)
+    (entries wordsStep noWords (take (b .n) inputWords) (gateOn b) (b .n) j)
 
 pub record Examining (b c : Bench) (j : ℕ) : Type 0 where
   pub to : j ≤ b .g
@@ -114,17 +114,17 @@ examine-start c h ed ea ev =
     let n = c .n in
     let z = length-replicate {A = ℕ} n 0 in
     let none = padded-same {A = ℕ} 256 0 n (omega arith) in
-    let p = ed ∙ sym (entries-start depthStep 0 (replicate n 0) (gateOf c) n z ∙ none) in
-    let q = ea ∙ sym (entries-start andStep 0 (replicate n 0) (gateOf c) n z ∙ none) in
-    let r = ev ∙ sym (entries-start wordsStep noWords (take n inputWords) (gateOf c) n (inputs-length n h)) in
+    let p = ed ∙ sym (entries-start depthStep 0 (replicate n 0) (gateOn c) n z ∙ none) in
+    let q = ea ∙ sym (entries-start andStep 0 (replicate n 0) (gateOn c) n z ∙ none) in
+    let r = ev ∙ sym (entries-start wordsStep noWords (take n inputWords) (gateOn c) n (inputs-length n h)) in
     record { to = omega arith; is = λ i. holding c (p i) (q i) (r i) }
 
-pub examine-next : (b c : Bench) (j x y d a : ℕ) (w : Words) → b .n ≤ 8 → b .g ≤ 248 → j < b .g → Examining b c j → x ≡ gateOf b j .left → y ≡ second (gateOf b j)
-    → Stored (gateOf b j) c x y d a w → Examining b (put c (b .n + j) d a w) (j + 1)
+pub examine-next : (b c : Bench) (j x y d a : ℕ) (w : Words) → b .n ≤ 8 → b .g ≤ 248 → j < b .g → Examining b c j → x ≡ gateOn b j .left → y ≡ second (gateOn b j)
+    → Stored (gateOn b j) c x y d a w → Examining b (put c (b .n + j) d a w) (j + 1)
 unfolding examinedTo
 examine-next b c j x y d a w n8 g248 h t ex ey s =
     let n = b .n in
-    let Q = gateOf b in
+    let Q = gateOn b in
     let z = length-replicate {A = ℕ} n 0 in
     let shows : (u v : ℕ) → u ≡ v → Shows b c j u v = λ u v e. record {
       depth = ap₂ (λ (k : Bench) (i : ℕ). getD (k .depths) i 0) (t .is) e ∙ entries-read depthStep 0 (replicate n 0) Q n j v;

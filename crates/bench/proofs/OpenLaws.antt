@@ -23,11 +23,11 @@ use Rattle.circuit.proofs.Accept.{Shaped, both}
 use Rattle.circuit.proofs.Round.{answer-stored, stored-listing}
 use Rattle.bench.specs.declared.Bench.{Bench}
 use Rattle.bench.specs.declared.Opened.{Opened}
-use Rattle.bench.specs.Target.{Target, matrix, table, isMatrix, bytesOf, targetFits, targetOf}
-use Rattle.bench.specs.State.{Limits, State, limits}
-use Rattle.bench.specs.Held.{wantedWords, fullBench, benchOf}
-use Rattle.bench.specs.Calls.{after, openAnswer, openState, OpenPromise}
-use Rattle.bench.specs.Parts.{gateOf, examinedAs, examined, placedOf}
+use Rattle.bench.specs.Target.{Target, matrix, table, isMatrix, targetBytes, targetFits, targetOf}
+use Rattle.bench.specs.State.{Limits, State, Present, limits}
+use Rattle.bench.specs.Held.{wantedWords, fullBench, benchOf, Stands}
+use Rattle.bench.specs.Calls.{after, openAnswer, openState, afterOpen, benchAfterOpen, OpenPromise}
+use Rattle.bench.specs.Parts.{gateOn, examinedAs, examined, placedOf}
 use Rattle.bench.proofs.Standing.{circuit-fits, gate-of, full-examined, examined-same}
 use Rattle.bench.proofs.StoreLaws.{circuit-of-full}
 use Rattle.bench.proofs.EntryLaws.{wanted-padded}
@@ -69,15 +69,15 @@ placed-by c only bytes T W gates depth ands e f =
 module _ (s : State) where
   full-examining : s .circuit .inputs ≤ 8 → examined (fullBench s) ≡ fullBench s
   full-examining n8 =
-      examined-same (fullBench s) (gateAt (s .circuit)) (gateOf (fullBench s)) (λ i h. gate-of s i) ∙ sym (full-examined s n8)
+      examined-same (fullBench s) (gateAt (s .circuit)) (gateOn (fullBench s)) (λ i h. gate-of s i) ∙ sym (full-examined s n8)
 
   pub placed-full : s .circuit .inputs ≤ 8
-      → placedOf (held (s .circuit)) (isMatrix (s .target)) (bytesOf (s .target)) (s .limits .gates) (s .limits .depth) (s .limits .andDepth) ≡ fullBench s
+      → placedOf (held (s .circuit)) (isMatrix (s .target)) (targetBytes (s .target)) (s .limits .gates) (s .limits .depth) (s .limits .andDepth) ≡ fullBench s
   unfolding placedOf fullBench examinedAs
   placed-full n8 =
       let t = s .target in
       let c = sym (circuit-of-full s) in
-      (λ i. examined (bare (c i) (isMatrix t) (padded 256 0 (bytesOf t)) (padded 32 noWords (upto (λ (j : ℕ). wanted-padded t j i) (length (s .circuit .outs))))
+      (λ i. examined (bare (c i) (isMatrix t) (padded 256 0 (targetBytes t)) (padded 32 noWords (upto (λ (j : ℕ). wanted-padded t j i) (length (s .circuit .outs))))
       (s .limits .gates) (s .limits .depth) (s .limits .andDepth)))
       ∙ full-examining n8
 
@@ -108,12 +108,12 @@ pub kind-of : (only : Bool) (bytes : List ℕ) → isMatrix (targetOf only bytes
 kind-of true bytes = refl
 kind-of false bytes = refl
 
-pub bytes-of : (only : Bool) (bytes : List ℕ) → bytesOf (targetOf only bytes) ≡ bytes
+pub bytes-of : (only : Bool) (bytes : List ℕ) → targetBytes (targetOf only bytes) ≡ bytes
 bytes-of true bytes = refl
 bytes-of false bytes = refl
 
 -- a target that keeps its rule has room on the bench
-pub target-short : (n m : ℕ) (t : Target) → n ≤ 8 → m ≤ 32 → targetFits n m t ≡ true → length (bytesOf t) ≤ 256
+pub target-short : (n m : ℕ) (t : Target) → n ≤ 8 → m ≤ 32 → targetFits n m t ≡ true → length (targetBytes t) ≤ 256
 unfolding targetFits
 target-short n m (matrix rows) n8 m32 f = omega (arith, eqb-true (length rows) m (both (eqb (length rows) m) f .0))
 target-short n m (table entries) n8 m32 f =
@@ -125,13 +125,20 @@ target-short n m (table entries) n8 m32 f =
 module _ (b : Bench) (bytes : List ℕ) (t : Target) (l : Limits) where
   pub open-refused : (w : Refusal) (r : Opened) → openAnswer bytes t ≡ Refused w → r ≡ record { bench = b; answer = Refused w }
       → OpenPromise b bytes t l (r .answer) (r .bench)
-  open-refused w r e is p k = (
+  open-refused w r e is = (
     ap (λ (x : Opened). x .answer) is ∙ sym e,
-    ap (λ (x : Opened). x .bench) is ∙ k .is ∙ ap (λ (x : Answer). benchOf (after x (openState bytes t l) p)) (sym e),
+    ap (λ (x : Opened). x .bench) is ∙ ap (λ (x : Answer). benchAfterOpen x (openState bytes t l) b) (sym e),
   )
 
   pub open-done : (next : Bench) → openAnswer bytes t ≡ Done → next ≡ fullBench (openState bytes t l) → OpenPromise b bytes t l Done next
-  open-done next e f p k = (sym e, f ∙ ap (λ (x : Answer). benchOf (after x (openState bytes t l) p)) (sym e))
+  open-done next e f = (sym e, f ∙ ap (λ (x : Answer). benchAfterOpen x (openState bytes t l) b) (sym e))
+
+  -- on a bench that stands for something the bench after it is the one of what is present then
+  pub open-stands : {p : Present} → Stands b p → benchAfterOpen (openAnswer bytes t) (openState bytes t l) b ≡ benchOf (afterOpen p bytes t l)
+  open-stands {p} k = by (openAnswer bytes t) where
+    by : (a : Answer) → benchAfterOpen a (openState bytes t l) b ≡ benchOf (after a (openState bytes t l) p)
+    by Done = refl
+    by (Refused w) = k .is
 
 module _ (only : Bool) (bytes tb : List ℕ) where
   abbrev pub brought : Target

@@ -15,7 +15,6 @@ use Rattle.circuit.proofs.Keep.{Below}
 use Rattle.circuit.proofs.LineLaws.{made, lines-length, lines-one, lines-more, lines-at, place}
 use Rattle.circuit.proofs.Operands.{reads-below}
 use Rattle.circuit.proofs.Padding.{pad-read}
-use Rattle.bench.specs.declared.Edit.{Edit}
 use Rattle.bench.specs.Target.{isMatrix}
 use Rattle.bench.specs.State.{State, Sound, present}
 use Rattle.bench.specs.Parts.{AllBelow}
@@ -138,14 +137,15 @@ at-mem x (y ∷ l) m = go (List·Memᴰ·cases-cons m) (at-mem x l) where
   go (inl e) rest = (0, (omega arith, sym e))
   go (inr m) rest = let r = rest m in (suc (r .0), (omega (arith, r .1 .0), r .1 .1))
 
--- an edit's answer lists the affected lines: each once, in ascending order, no other, and zeros past the last
-pub record Lists (c : Listing) (k : ℕ) (e : Edit) : Type 0 where
-  pub each : (j : ℕ) → j < e .count → Affected c k (getD (e .lines) j 0)
-  pub every : (i : ℕ) → Affected c k i → (j : ℕ) × ((j < e .count) × (getD (e .lines) j 0 ≡ i))
-  pub ascends : (a b : ℕ) → a < b → b < e .count → getD (e .lines) a 0 < getD (e .lines) b 0
-  pub rest : (j : ℕ) → e .count ≤ j → getD (e .lines) j 0 ≡ 0
+-- the first `count` of an edit's lines are the affected ones: each once, in ascending order, no other, and zeros past the last
+pub record Lists (c : Listing) (k : ℕ) (lines : List ℕ) (count : ℕ) : Type 0 where
+  pub each : (j : ℕ) → j < count → Affected c k (getD lines j 0)
+  pub every : (i : ℕ) → Affected c k i → (j : ℕ) × ((j < count) × (getD lines j 0 ≡ i))
+  pub ascends : (a b : ℕ) → a < b → b < count → getD lines a 0 < getD lines b 0
+  pub rest : (j : ℕ) → count ≤ j → getD lines j 0 ≡ 0
 
-pub reworking-lists : (c : Listing) (k : ℕ) → AllBelow (c .inputs) (length (c .gates)) (gateAt c) → k < length (c .gates) → Lists c k (reworking (readersOf c k))
+pub reworking-lists : (c : Listing) (k : ℕ) → AllBelow (c .inputs) (length (c .gates)) (gateAt c) → k < length (c .gates)
+    → let e = reworking (readersOf c k) in Lists c k (e .lines) (e .count)
 reworking-lists c k below there =
     let marks = readersOf c k in
     let l = placesFrom 0 marks in
@@ -160,9 +160,9 @@ reworking-lists c k below there =
 
 -- an accepted replacement of gate k answers that gate's line and every line that reads it, directly or through others, and no more
 pub gate-edit-lists : (s : State) (k kind a b : ℕ) → Sound s → gateEditAnswer (present s) k kind a b ≡ Done
-    → Lists (s .circuit) k (gateEdit (present s) k kind a b)
+    → let e = gateEdit (present s) k kind a b in Lists (s .circuit) k (e .lines) (e .count)
 gate-edit-lists s k kind a b ok h =
     let c = s .circuit in
     let only = isMatrix (s .target) in
-    subst (λ (x : Answer). Lists c k (editBy x (readersOf c k))) (sym h)
+    subst (λ (x : Answer). let e = editBy x (readersOf c k) in Lists c k (e .lines) (e .count)) (sym h)
     (reworking-lists c k (all-below only c (circuit-fits only c (ok .circuit))) (edit-fits s k kind a b h .there))

@@ -21,7 +21,7 @@ use Rattle.bench.specs.declared.Bench.{Bench}
 use Rattle.bench.specs.Target.{isMatrix}
 use Rattle.bench.specs.State.{State, Sound, SoundPresent, Present, nothing, present}
 use Rattle.bench.specs.Held.{emptyBench, fullBench, benchOf, Stands}
-use Rattle.bench.specs.Parts.{gateOf, holding, entries, examinedAs, examined, AllBelow, Agree, Reexamined, standing, gateLook}
+use Rattle.bench.specs.Parts.{gateOn, holding, entries, examinedAs, examined, AllBelow, Agree, Reexamined, standing, gateLook}
 use Rattle.bench.specs.Calls.{gateEditAnswer, withGate, gateEdited, after, afterGate, readersOf, reworking, noRework, editBy, gateEdit}
 use Rattle.bench.proofs.Standing.{GateFits, gate-fits, GatesDone, OutsDone, CircuitFits, circuit-fits, fits-circuit, all-below, gate-of, full-examined, examined-same, full-standing}
 use Rattle.bench.proofs.Setting.{map-set, set-each}
@@ -206,12 +206,12 @@ module _ (s : State) (k kind a b : ℕ) where
         }
 
   -- its gates are the new state's
-  stale-gate : (j : ℕ) → gateOf stale j ≡ gateAt (next .circuit) j
+  stale-gate : (j : ℕ) → gateOn stale j ≡ gateAt (next .circuit) j
   unfolding stale
   stale-gate j = gate-of next j
 
   -- all but gate k are as they were
-  stale-agrees : Agree k (gateAt (s .circuit)) (gateOf stale)
+  stale-agrees : Agree k (gateAt (s .circuit)) (gateOn stale)
   stale-agrees j ne = stale-gate j ∙ getD-set-other (s .circuit .gates) k j Q noGate ne
 
   -- what it holds is what examining the old gates gives
@@ -230,13 +230,13 @@ module _ (s : State) (k kind a b : ℕ) where
   -- examined, it is the bench of the new state
   stale-examined : s .circuit .inputs ≤ 8 → examined stale ≡ fullBench next
   unfolding stale examinedAs
-  stale-examined n8 = examined-same (fullBench next) (gateAt (next .circuit)) (gateOf (fullBench next)) (λ i h. gate-of next i) ∙ sym (full-examined next n8)
+  stale-examined n8 = examined-same (fullBench next) (gateAt (next .circuit)) (gateOn (fullBench next)) (λ i h. gate-of next i) ∙ sym (full-examined next n8)
 
   module _ (ok : Sound s) (h : gateEditAnswer (present s) k kind a b ≡ Done) where
     fits : CircuitFits (isMatrix (s .target)) (next .circuit)
     fits = circuit-fits (isMatrix (s .target)) (next .circuit) (sound-kept s k kind a b ok h .circuit)
 
-    stale-below : AllBelow (stale .n) (stale .g) (gateOf stale)
+    stale-below : AllBelow (stale .n) (stale .g) (gateOn stale)
     unfolding stale fullBench
     stale-below j l =
         subst (λ (q : Gate). (q .left < s .circuit .inputs + j) × (q .right < s .circuit .inputs + j)) (sym (stale-gate j))
@@ -253,9 +253,9 @@ module _ (s : State) (k kind a b : ℕ) where
     unfolding stale fullBench
     fresh-lines r marks e =
         let c = s .circuit in
-        ap reworking (e .marked) ∙ reworking-padded (reached k (stale .n) (gateOf stale) (stale .g)) (256 - (stale .n + stale .g))
+        ap reworking (e .marked) ∙ reworking-padded (reached k (stale .n) (gateOn stale) (stale .g)) (256 - (stale .n + stale .g))
         ∙ ap reworking
-        (reached-same k (c .inputs) (gateAt c) (gateOf stale) stale-agrees (stale .g) ∙ ap (reached k (c .inputs) (gateAt c)) (length-set (c .gates) k Q))
+        (reached-same k (c .inputs) (gateAt c) (gateOn stale) stale-agrees (stale .g) ∙ ap (reached k (c .inputs) (gateAt c)) (length-set (c .gates) k Q))
 
 -- an accepted edit, on a bench that stands for p
 pub done-edit : (z : Bench) (p : Present) → Stands z p → (k kind a b : ℕ) → gateEditAnswer p k kind a b ≡ Done

@@ -24,31 +24,31 @@ use Rattle.bench.specs.declared.Reported.{Reported}
 use Rattle.bench.specs.Target.{Target, isMatrix, targetFits}
 use Rattle.bench.specs.State.{Limits, State, Present, nothing, present, Sound, SoundPresent}
 use Rattle.bench.specs.Held.{emptyBench, fullBench, benchOf, Stands}
-use Rattle.bench.specs.Calls.{after, openAnswer, openState, gateEditAnswer, withGate, gateEdited, afterGate, readersOf, editBy, gateEdit, reported, GatePromise, ReportPromise, afterOpen, afterOutput, outputEditAnswer, entryEditAnswer, afterEntry, limitsAnswer, afterLimits, noRework, storeAnswer, storedOf}
-use Rattle.bench.specs.Run.{Call, afterCall, presentFrom, presentAfter, Step, Runs}
+use Rattle.bench.specs.Calls.{after, openAnswer, openState, gateEditAnswer, withGate, gateEdited, afterGate, readersOf, editBy, gateEdit, reported, outputEditAnswer, entryEditAnswer, limitsAnswer, noRework, storeAnswer, storedOf, View, asTheyAre, benchAfterOpen, GatePromise, ReportPromise}
+use Rattle.bench.specs.Run.{Call, afterCall, presentFrom, presentAfter, StepGiven, RunsBy, Runs}
 use Rattle.bench.specs.Run.Call.{opening, replacing, pointing, changing, limiting, reporting, storing}
 use Rattle.bench.proofs.Standing.{circuit-fits}
 use Rattle.bench.proofs.Examining.{inputs-length}
-use Rattle.bench.proofs.Replacing.{reached-same}
 use Rattle.bench.proofs.Unique.{one-present}
+use Rattle.bench.proofs.OpenLaws.{open-stands}
 use Rattle.bench.proofs.SoundLaws.{sound-call, Callable}
 
 -- ---- any calls
 
 -- one call: the bench after it stands for what is present after it
-pub step-stands : {b next : Bench} {call : Call} (p : Present) → Stands b p → Step b call next → Stands next (afterCall p call)
-step-stands p k (Step.opened {bytes} {t} {l} answer small promise) =
-    record { sound = sound-call p (opening bytes t l) small (k .sound); is = promise p k .1 }
-step-stands p k (Step.replaced {k = g} {kind} {x} {y} edit promise) = record { sound = sound-call p (replacing g kind x y) tt (k .sound); is = promise p k .1 }
-step-stands p k (Step.pointed {j} {line} edit promise) = record { sound = sound-call p (pointing j line) tt (k .sound); is = promise p k .1 }
-step-stands p k (Step.changed {i} {value} edit promise) = record { sound = sound-call p (changing i value) tt (k .sound); is = promise p k .1 }
-step-stands p k (Step.limited {l} edit small promise) = record { sound = sound-call p (limiting l) small (k .sound); is = promise p k .1 }
-step-stands p k (Step.reported r promise) = k
-step-stands p k (Step.stored r out promise) = k
+pub step-stands : {v : View} {b next : Bench} {call : Call} (p : Present) → Stands b p → StepGiven v b call next → Stands next (afterCall p call)
+step-stands {b} p k (StepGiven.opened {bytes} {t} {l} answer small promise) =
+    record { sound = sound-call p (opening bytes t l) small (k .sound); is = promise .1 ∙ open-stands b bytes t l k }
+step-stands p k (StepGiven.replaced {k = g} {kind} {x} {y} edit promise) = record { sound = sound-call p (replacing g kind x y) tt (k .sound); is = promise p k .1 }
+step-stands p k (StepGiven.pointed {j} {line} edit promise) = record { sound = sound-call p (pointing j line) tt (k .sound); is = promise p k .1 }
+step-stands p k (StepGiven.changed {i} {value} edit promise) = record { sound = sound-call p (changing i value) tt (k .sound); is = promise p k .1 }
+step-stands p k (StepGiven.limited {l} edit small promise) = record { sound = sound-call p (limiting l) small (k .sound); is = promise p k .1 }
+step-stands p k (StepGiven.reported r promise) = k
+step-stands p k (StepGiven.stored r out promise) = k
 
 pub runs-stand : {b last : Bench} {calls : List Call} (p : Present) → Stands b p → Runs b calls last → Stands last (presentFrom p calls)
-runs-stand p k Runs.none = k
-runs-stand p k (Runs.more {call} mid step rest) = runs-stand (afterCall p call) (step-stands p k step) rest
+runs-stand p k RunsBy.none = k
+runs-stand p k (RunsBy.more {call} mid step rest) = runs-stand (afterCall p call) (step-stands p k step) rest
 
 -- a bench with nothing open stands for nothing
 pub empty-stands : Stands emptyBench nothing
@@ -69,45 +69,59 @@ report-after-calls {r} run promise = promised-after-calls (λ (p : Present). r �
 -- ---- the promises can be met
 
 -- what holds of what is present holds of whatever the bench stands for, since that is one thing
-met : (b : Bench) (p : Present) → Stands b p → (Q : Present → Type 0) → Q p → (q : Present) → Stands b q → Q q
+pub met : (b : Bench) (p : Present) → Stands b p → (Q : Present → Type 0) → Q p → (q : Present) → Stands b q → Q q
 met b p k Q x q l = subst Q (one-present b p q k l) x
 
--- after any calls, a further one has a bench and an answer that its promise allows
-pub step-exists : (b : Bench) (p : Present) → Stands b p → (call : Call) → Callable call → Step b call (benchOf (afterCall p call))
-step-exists b p k (opening bytes t l) small =
-    Step.opened (openAnswer bytes t) small
-    (met b p k (λ (q : Present). (openAnswer bytes t ≡ openAnswer bytes t) × (benchOf (afterOpen p bytes t l) ≡ benchOf (afterOpen q bytes t l))) (refl, refl))
-step-exists b p k (replacing g kind x y) u =
-    Step.replaced (gateEdit p g kind x y)
-    (met b p k (λ (q : Present). (gateEdit p g kind x y ≡ gateEdit q g kind x y) × (benchOf (afterGate p g kind x y) ≡ benchOf (afterGate q g kind x y))) (refl, refl))
-step-exists b p k (pointing j line) u =
-    Step.pointed (noRework (outputEditAnswer p j line))
-    (met b p k (λ (q : Present). (noRework (outputEditAnswer p j line) ≡ noRework (outputEditAnswer q j line)) × (benchOf (afterOutput p j line) ≡ benchOf (afterOutput q j line))) (refl, refl))
-step-exists b p k (changing i value) u =
-    Step.changed (noRework (entryEditAnswer p i value))
-    (met b p k (λ (q : Present). (noRework (entryEditAnswer p i value) ≡ noRework (entryEditAnswer q i value)) × (benchOf (afterEntry p i value) ≡ benchOf (afterEntry q i value))) (refl, refl))
-step-exists b p k (limiting l) small =
-    Step.limited (noRework (limitsAnswer p)) small
-    (met b p k (λ (q : Present). (noRework (limitsAnswer p) ≡ noRework (limitsAnswer q)) × (benchOf (afterLimits p l) ≡ benchOf (afterLimits q l))) (refl, refl))
-step-exists b p k reporting u =
-    subst (λ (z : Bench). Step b reporting z) (k .is) (Step.reported (reported p) (met b p k (λ (q : Present). reported p ≡ reported q) refl))
-step-exists b p k (storing room) u =
+-- after any calls, a further one has a bench and an answer that its promise allows, however answers are given
+pub step-exists : (v : View) (b : Bench) (p : Present) → Stands b p → (call : Call) → Callable call → StepGiven v b call (benchOf (afterCall p call))
+step-exists v b p k (opening bytes t l) small = StepGiven.opened (v .answer (openAnswer bytes t)) small (refl, sym (open-stands b bytes t l k))
+step-exists v b p k (replacing g kind x y) u = StepGiven.replaced (v .edit (gateEdit p g kind x y)) (met b p k _ (refl, refl))
+step-exists v b p k (pointing j line) u = StepGiven.pointed (v .edit (noRework (outputEditAnswer p j line))) (met b p k _ (refl, refl))
+step-exists v b p k (changing i value) u = StepGiven.changed (v .edit (noRework (entryEditAnswer p i value))) (met b p k _ (refl, refl))
+step-exists v b p k (limiting l) small = StepGiven.limited (v .edit (noRework (limitsAnswer p))) small (met b p k _ (refl, refl))
+step-exists v b p k reporting u = subst (λ (z : Bench). StepGiven v b reporting z) (k .is) (StepGiven.reported (v .report (reported p)) (met b p k _ refl))
+step-exists v b p k (storing room) u =
     let r = storeAnswer p (length room) in
-    let out = roomAfter r (storedOf p) room in
-    subst (λ (z : Bench). Step b (storing room) z) (k .is)
-    (Step.stored r out (met b p k (λ (q : Present). (r ≡ storeAnswer q (length room)) × (out ≡ roomAfter (storeAnswer q (length room)) (storedOf q) room)) (refl, refl)))
+    subst (λ (z : Bench). StepGiven v b (storing room) z) (k .is) (StepGiven.stored (v .writing r) (roomAfter r (storedOf p) room) (met b p k _ (refl, refl)))
+
+-- ---- a call is the same call however its answer is given
+
+-- what a call is given is what a caller can give
+callable : {v : View} {b next : Bench} {call : Call} → StepGiven v b call next → Callable call
+callable (StepGiven.opened answer small promise) = small
+callable (StepGiven.replaced edit promise) = tt
+callable (StepGiven.pointed edit promise) = tt
+callable (StepGiven.changed edit promise) = tt
+callable (StepGiven.limited edit small promise) = small
+callable (StepGiven.reported r promise) = tt
+callable (StepGiven.stored r out promise) = tt
+
+-- on a bench that stands for something, a step in one view is one in any other
+pub step-otherwise : {v : View} (u : View) {b next : Bench} {call : Call} (p : Present) → Stands b p → StepGiven v b call next → StepGiven u b call next
+step-otherwise u {b} {call} p k step =
+    subst (λ (z : Bench). StepGiven u b call z) (sym (step-stands p k step .is)) (step-exists u b p k call (callable step))
+
+-- an accepted open is a step from any bench, whatever it holds
+pub open-otherwise : {v : View} (u : View) {b next : Bench} (c : Bench) {bytes : List ℕ} {t : Target} {l : Limits} → openAnswer bytes t ≡ Done
+    → StepGiven v b (opening bytes t l) next → StepGiven u c (opening bytes t l) next
+open-otherwise u {b} c {bytes} {t} {l} e (StepGiven.opened answer small promise) =
+    let opens : (x : Bench) → benchAfterOpen (openAnswer bytes t) (openState bytes t l) x ≡ fullBench (openState bytes t l) =
+    λ x. ap (λ (a : Answer). benchAfterOpen a (openState bytes t l) x) e in
+    StepGiven.opened (u .answer (openAnswer bytes t)) small (refl, promise .1 ∙ opens b ∙ sym (opens c))
+
+-- ---- whatever is called
 
 abbrev pub AllCallable : List Call → Type 0
 AllCallable [] = Unit {0}
 AllCallable (call ∷ calls) = Callable call × AllCallable calls
 
 runs-from : (b : Bench) (p : Present) → Stands b p → (calls : List Call) → AllCallable calls → (last : Bench) × Runs b calls last
-runs-from b p k [] u = (b, Runs.none)
+runs-from b p k [] u = (b, RunsBy.none)
 runs-from b p k (call ∷ calls) u =
     let next = benchOf (afterCall p call) in
-    let step = step-exists b p k call (u .0) in
+    let step = step-exists asTheyAre b p k call (u .0) in
     let rest = runs-from next (afterCall p call) (step-stands p k step) calls (u .1) in
-    (rest .0, Runs.more next step (rest .1))
+    (rest .0, RunsBy.more next step (rest .1))
 
 -- so whatever is called, with limits that are bytes, there is a bench after it
 pub runs-exist : (calls : List Call) → AllCallable calls → (b : Bench) × Runs emptyBench calls b
@@ -177,12 +191,6 @@ module _ (c : Listing) (k : ℕ) (q : Gate) where
       ∙ ap (λ (x : ℕ). getD (new x) i d) (length-set (c .gates) k q)
       ∙ sym (same-lines step d ins (gateAt (withGate c k q)) (gateAt c) k agree g i u)
       ∙ sym (pad-read old (256 - length old) i d)
-
-  -- the readers of a gate do not depend on that gate, so an edit of it after an edit of it reworks the same lines
-  pub readers-kept : readersOf (withGate c k q) k ≡ readersOf c k
-  readers-kept =
-      sym (reached-same k (c .inputs) (gateAt (withGate c k q)) (gateAt c) agree (length (withGate c k q .gates)))
-      ∙ ap (reached k (c .inputs) (gateAt c)) (length-set (c .gates) k q)
 
 module _ (s : State) (ok : Sound s) (k : ℕ) where
   line-kept : (kind x y i : ℕ) → getD (readersOf (s .circuit) k) i false ≡ false → SameLine (fullBench s) (fullBench (gateEdited s k kind x y)) i

@@ -19,7 +19,7 @@ use Rattle.bench.specs.declared.Bench.{Bench}
 use Rattle.bench.specs.Target.{isMatrix}
 use Rattle.bench.specs.State.{State, Sound}
 use Rattle.bench.specs.Held.{fullBench}
-use Rattle.bench.specs.Parts.{gateOf, entries, holding, examinedAs, AllBelow, standing}
+use Rattle.bench.specs.Parts.{gateOn, entries, holding, examinedAs, AllBelow, standing}
 
 -- ---- one gate that is accepted
 
@@ -133,7 +133,7 @@ pub column-at : (f : Gate → ℕ) → f noGate ≡ 0 → (qs : List Gate) (cap 
 column-at f e qs cap k =
     pad-read (map f qs) (cap - length (map f qs)) k 0 ∙ ap (getD (map f qs) k) (sym e) ∙ List·getD-map f qs k noGate
 
-pub gate-of : (s : State) (k : ℕ) → gateOf (fullBench s) k ≡ gateAt (s .circuit) k
+pub gate-of : (s : State) (k : ℕ) → gateOn (fullBench s) k ≡ gateAt (s .circuit) k
 unfolding fullBench
 gate-of s k =
     let qs = s .circuit .gates in

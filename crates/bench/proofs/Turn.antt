@@ -13,26 +13,26 @@ use Rattle.circuit.proofs.LineLaws.{made, unreached}
 use Rattle.circuit.proofs.Keep.{kept-read, kept-hit, kept-start, kept-miss, kept-done}
 use Rattle.circuit.proofs.Operands.{second, reach-two, reads-below}
 use Rattle.bench.specs.declared.Bench.{Bench}
-use Rattle.bench.specs.Parts.{gateOf, holding, entries, examinedAs, AllBelow, Agree, Reexamined}
+use Rattle.bench.specs.Parts.{gateOn, holding, entries, examinedAs, AllBelow, Agree, Reexamined}
 use Rattle.bench.proofs.Examining.{entries-read, entries-skip, entries-next, entries-length, inputs-length, Stored, Shows, stored-makes, put}
 
 -- the circuit before the edit: it differs at gate k alone, and its lines were held
 pub record Old (b : Bench) (k : ℕ) (old : ℕ → Gate) : Type 0 where
-  pub below : AllBelow (b .n) (b .g) (gateOf b)
-  pub agree : Agree k old (gateOf b)
+  pub below : AllBelow (b .n) (b .g) (gateOn b)
+  pub agree : Agree k old (gateOn b)
   pub was : b ≡ examinedAs b old
 
 -- each held array is fresh so far, and what it was from there on
 pub record Fresh (b : Bench) (j : ℕ) (c : Bench) : Type 0 where
-  pub depths : c .depths ≡ depths (b .n) (gateOf b) j ++ drop (b .n + j) (b .depths)
-  pub ands : c .«and_depths» ≡ andDepths (b .n) (gateOf b) j ++ drop (b .n + j) (b .«and_depths»)
-  pub values : c .values ≡ words (b .n) (gateOf b) j ++ drop (b .n + j) (b .values)
+  pub depths : c .depths ≡ depths (b .n) (gateOn b) j ++ drop (b .n + j) (b .depths)
+  pub ands : c .«and_depths» ≡ andDepths (b .n) (gateOn b) j ++ drop (b .n + j) (b .«and_depths»)
+  pub values : c .values ≡ words (b .n) (gateOn b) j ++ drop (b .n + j) (b .values)
 
 pub record Turn (b : Bench) (k : ℕ) (c : Bench) (marks : List Bool) (j : ℕ) : Type 0 where
   pub from : k ≤ j
   pub to : j ≤ b .g
   pub rest : c ≡ holding b (c .depths) (c .«and_depths») (c .values)
-  pub marked : marks ≡ entries (reachStep k) false (replicate (b .n) false) (gateOf b) (b .n) j
+  pub marked : marks ≡ entries (reachStep k) false (replicate (b .n) false) (gateOn b) (b .n) j
   pub fresh : (old : ℕ → Gate) → Old b k old → Fresh b j c
 
 pub moved : {b : Bench} {k : ℕ} {c c′ : Bench} {marks marks′ : List Bool} {j : ℕ} → c′ ≡ c → marks′ ≡ marks → Turn b k c marks j → Turn b k c′ marks′ j
@@ -43,7 +43,7 @@ module _ (b : Bench) (k : ℕ) (n8 : b .n ≤ 8) (g248 : b .g ≤ 248) where
   N = b .n
 
   abbrev Q : ℕ → Gate
-  Q = gateOf b
+  Q = gateOn b
 
   abbrev hits : ℕ → Bool
   hits = made (reachStep k) false (replicate N false) Q

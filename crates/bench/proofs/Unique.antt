@@ -1,5 +1,5 @@
--- Two results that meet the promise of a public function, on a bench that stands for something, are equal: answer, bench and each lent byte.
--- And a bench stands for one thing only. Assumes nothing.
+-- Two results that meet the promise of a call are equal, answer, bench and each lent byte, however answers are given: of an open on any bench, of the
+-- other calls on a bench that stands for something. And a bench stands for one thing only. Assumes nothing.
 use mathlib.Core.Path.{_≡_, refl, ap, _∙_, sym}
 use mathlib.Core.Bool.{true, cond, true≢false}
 use mathlib.Core.List.{List}
@@ -7,68 +7,48 @@ use Prim.Native.Nat.{ℕ, _^_}
 use lib.Dec.{leb, eqb}
 use lib.ListN.{length, take}
 use borrow.Author.Tests.{eqb-true}
-use Rattle.circuit.specs.declared.Circuit.{Circuit}
-use Rattle.circuit.specs.declared.Writing.{Writing}
 use Rattle.circuit.specs.Stored.{listed}
 use Rattle.circuit.specs.Lines.{padded}
 use Rattle.circuit.proofs.Accept.{both}
 use Rattle.circuit.proofs.Back.{listed-held}
 use Rattle.circuit.proofs.Padding.{padded-take}
 use Rattle.bench.specs.declared.Bench.{Bench}
-use Rattle.bench.specs.declared.Edited.{Edited}
-use Rattle.bench.specs.declared.Opened.{Opened}
-use Rattle.bench.specs.declared.Edit.{Edit}
-use Rattle.bench.specs.declared.Reported.{Reported}
-use Rattle.bench.specs.Target.{Target, matrix, table, isMatrix, bytesOf, targetFits, targetOf}
+use Rattle.bench.specs.Target.{Target, matrix, table, isMatrix, targetBytes, targetFits, targetOf}
 use Rattle.bench.specs.State.{Limits, State, Present, nothing, present, Sound, limits}
 use Rattle.bench.specs.Held.{emptyBench, fullBench, Stands, circuitOf}
-use Rattle.bench.specs.Calls.{OpenPromise, GatePromise, OutputPromise, EntryPromise, LimitsPromise, ReportPromise, StorePromise}
+use Rattle.bench.specs.Calls.{View, OpenGiven, GateGiven, OutputGiven, EntryGiven, LimitsGiven, ReportGiven, StoreGiven}
 use Rattle.bench.proofs.StoreLaws.{circuit-of-full}
 
--- ---- what any bench has
+-- two pairs that are each the same two values
+both-same : {A B : Type 0} {x y a : A} {u v b : B} → (x ≡ a) × (u ≡ b) → (y ≡ a) × (v ≡ b) → (x ≡ y) × (u ≡ v)
+both-same p q = (p .0 ∙ sym (q .0), p .1 ∙ sym (q .1))
 
-pub empty-unique : (r s : Bench) → r ≡ emptyBench → s ≡ emptyBench → r ≡ s
-empty-unique r s p q = p ∙ sym q
+module _ (v : View) where
+  -- an open on any bench, of either kind: `matrix rows` for `open_matrix`, `table entries` for `open_table`
+  pub open-unique : (b : Bench) (bytes : List ℕ) (t : Target) (l : Limits) (r s : v .Answers) (c d : Bench)
+      → OpenGiven v b bytes t l r c → OpenGiven v b bytes t l s d → (r ≡ s) × (c ≡ d)
+  open-unique b bytes t l r s c d m n = both-same m n
 
-pub circuit-of-unique : (b : Bench) (r s : Circuit) → r ≡ circuitOf b → s ≡ circuitOf b → r ≡ s
-circuit-of-unique b r s p q = p ∙ sym q
+  -- the others on a bench that stands for something
+  module _ (b : Bench) (p : Present) (k : Stands b p) where
+    pub replace-gate-unique : (g kind x y : ℕ) (r s : v .Edits) (c d : Bench) → GateGiven v b g kind x y r c → GateGiven v b g kind x y s d → (r ≡ s) × (c ≡ d)
+    replace-gate-unique g kind x y r s c d m n = both-same (m p k) (n p k)
 
--- ---- on a bench that stands for something
+    pub point-output-unique : (j line : ℕ) (r s : v .Edits) (c d : Bench) → OutputGiven v b j line r c → OutputGiven v b j line s d → (r ≡ s) × (c ≡ d)
+    point-output-unique j line r s c d m n = both-same (m p k) (n p k)
 
-same-edited : (r s : Edited) {e : Edit} {n : Bench} → (r .edit ≡ e) × (r .bench ≡ n) → (s .edit ≡ e) × (s .bench ≡ n) → r ≡ s
-same-edited r s p q = λ i. record { bench = (p .1 ∙ sym (q .1)) i; edit = (p .0 ∙ sym (q .0)) i }
+    pub change-entry-unique : (i value : ℕ) (r s : v .Edits) (c d : Bench) → EntryGiven v b i value r c → EntryGiven v b i value s d → (r ≡ s) × (c ≡ d)
+    change-entry-unique i value r s c d m n = both-same (m p k) (n p k)
 
-module _ (b : Bench) (p : Present) (k : Stands b p) where
-  -- of either kind: `matrix rows` for `open_matrix`, `table entries` for `open_table`
-  pub open-unique : (bytes : List ℕ) (t : Target) (l : Limits) (r s : Opened)
-      → OpenPromise b bytes t l (r .answer) (r .bench) → OpenPromise b bytes t l (s .answer) (s .bench) → r ≡ s
-  open-unique bytes t l r s u v =
-      let x = u p k in
-      let y = v p k in
-      λ i. record { bench = (x .1 ∙ sym (y .1)) i; answer = (x .0 ∙ sym (y .0)) i }
+    pub set-limits-unique : (l : Limits) (r s : v .Edits) (c d : Bench) → LimitsGiven v b l r c → LimitsGiven v b l s d → (r ≡ s) × (c ≡ d)
+    set-limits-unique l r s c d m n = both-same (m p k) (n p k)
 
-  pub replace-gate-unique : (g kind x y : ℕ) (r s : Edited)
-      → GatePromise b g kind x y (r .edit) (r .bench) → GatePromise b g kind x y (s .edit) (s .bench) → r ≡ s
-  replace-gate-unique g kind x y r s u v = same-edited r s (u p k) (v p k)
+    pub report-unique : (r s : v .Reports) → ReportGiven v b r → ReportGiven v b s → r ≡ s
+    report-unique r s m n = m p k ∙ sym (n p k)
 
-  pub point-output-unique : (j line : ℕ) (r s : Edited) → OutputPromise b j line (r .edit) (r .bench) → OutputPromise b j line (s .edit) (s .bench) → r ≡ s
-  point-output-unique j line r s u v = same-edited r s (u p k) (v p k)
-
-  pub change-entry-unique : (i value : ℕ) (r s : Edited) → EntryPromise b i value (r .edit) (r .bench) → EntryPromise b i value (s .edit) (s .bench) → r ≡ s
-  change-entry-unique i value r s u v = same-edited r s (u p k) (v p k)
-
-  pub set-limits-unique : (l : Limits) (r s : Edited) → LimitsPromise b l (r .edit) (r .bench) → LimitsPromise b l (s .edit) (s .bench) → r ≡ s
-  set-limits-unique l r s u v = same-edited r s (u p k) (v p k)
-
-  pub report-unique : (r s : Reported) → ReportPromise b r → ReportPromise b s → r ≡ s
-  report-unique r s u v = u p k ∙ sym (v p k)
-
-  -- the room is a list, so each byte of it is the same
-  pub store-unique : (room : List ℕ) (r s : Writing) (out last : List ℕ) → StorePromise b room r out → StorePromise b room s last → (r ≡ s) × (out ≡ last)
-  store-unique room r s out last u v =
-      let x = u p k in
-      let y = v p k in
-      (x .0 ∙ sym (y .0), x .1 ∙ sym (y .1))
+    -- the room is a list, so each byte of it is the same
+    pub store-unique : (room : List ℕ) (r s : v .Writings) (out last : List ℕ) → StoreGiven v b room r out → StoreGiven v b room s last → (r ≡ s) × (out ≡ last)
+    store-unique room r s out last m n = both-same (m p k) (n p k)
 
 -- ---- a bench stands for one thing only
 
@@ -81,7 +61,7 @@ onBench b =
       limits = limits (b .«max_gates») (b .«max_depth») (b .«max_and_depth»);
     }
 
-target-back : (n m : ℕ) (t : Target) → targetFits n m t ≡ true → targetOf (isMatrix t) (take (cond (isMatrix t) m (2 ^ n)) (padded 256 0 (bytesOf t))) ≡ t
+target-back : (n m : ℕ) (t : Target) → targetFits n m t ≡ true → targetOf (isMatrix t) (take (cond (isMatrix t) m (2 ^ n)) (padded 256 0 (targetBytes t))) ≡ t
 unfolding targetFits
 target-back n m (matrix rows) f =
     ap matrix (padded-take 256 0 rows m (sym (eqb-true (length rows) m (both (eqb (length rows) m) f .0))))

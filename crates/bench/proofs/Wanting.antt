@@ -10,13 +10,13 @@ use lib.Dec.{eqb}
 use lib.ListN.{getD, List·getD-map}
 use borrow.Author.Tests.{eqb-true, eqb-false}
 use Rattle.circuit.specs.declared.Words.{Words}
-use Rattle.circuit.specs.Gate.{Kind, bit, wordsOf, noWords, valueIn}
+use Rattle.circuit.specs.Gate.{Kind, bit, parity, wordsOf, noWords, valueIn}
 use Rattle.circuit.specs.Lines.{inputWords}
-use Rattle.circuit.proofs.GateLaws.{bit-lt, bit-and}
+use Rattle.circuit.proofs.GateLaws.{bit-lt, bit-and, differ-none}
 use Rattle.circuit.proofs.Over.{upto-at}
 use Rattle.circuit.proofs.WordLaws.{value-words, inputs-right}
 use Rattle.bench.proofs.Differing.{none-set}
-use Rattle.bench.specs.Target.{Target, matrix, table, parity, wants}
+use Rattle.bench.specs.Target.{Target, matrix, table, wants}
 use Rattle.bench.specs.Held.{packed, rowWords, columnWords, wantedWords}
 use Rattle.bench.proofs.Packing.{bit-packed}
 
@@ -28,10 +28,6 @@ input-value i x hi hx =
     sym (List·getD-map (λ (w : Words). valueIn w x) inputWords i noWords)
     ∙ ap (λ (l : List ℕ). getD l i (valueIn noWords x)) (inputs-right x 8 hx (omega arith))
     ∙ upto-at (λ (k : ℕ). bit k x) (valueIn noWords x) 8 i hi
-
-differ-none : (d : ℕ) → differ d 0 ≡ d
-differ-none zero = refl
-differ-none (suc d) = refl
 
 row-value : (k row x : ℕ) → k ≤ 8 → x < 256 → valueIn (rowWords k row) x ≡ parity k (bitAnd row x)
 row-value zero row x hk hx = none-set x hx

@@ -170,32 +170,93 @@ abbrev pub storedOf : Present → List ℕ
 storedOf nothing = []
 storedOf (present s) = stored (s .circuit)
 
--- ---- what the functions promise: on a bench that stands for p
+-- ---- what the functions promise: an open on any bench, the others on a bench that stands for p
+
+-- how answers are given: as they are, or as numbers for other languages
+pub record View : Type 1 where
+  pub Answers : Type 0
+  pub Edits : Type 0
+  pub Reports : Type 0
+  pub Writings : Type 0
+  pub answer : Answer → Answers
+  pub edit : Edit → Edits
+  pub report : Reported → Reports
+  pub writing : Writing → Writings
+
+-- each answer as it is
+abbrev pub asTheyAre : View
+asTheyAre =
+    record {
+      Answers = Answer;
+      Edits = Edit;
+      Reports = Reported;
+      Writings = Writing;
+      answer = λ a. a;
+      edit = λ e. e;
+      report = λ r. r;
+      writing = λ w. w;
+    }
+
+-- the bench after an open that brings the state s: the one of that state, or after a refusal the bench as it was, whatever it held
+abbrev pub benchAfterOpen : Answer → State → Bench → Bench
+benchAfterOpen Done s b = benchOf (present s)
+benchAfterOpen (Refused w) s b = b
 
 -- of an open: its answer, and the bench after it
+abbrev pub OpenGiven : (v : View) → Bench → List ℕ → Target → Limits → v .Answers → Bench → Type 0
+OpenGiven v b bytes t l r next = (r ≡ v .answer (openAnswer bytes t)) × (next ≡ benchAfterOpen (openAnswer bytes t) (openState bytes t l) b)
+
+-- of replacing a gate
+abbrev pub GateGiven : (v : View) → Bench → ℕ → ℕ → ℕ → ℕ → v .Edits → Bench → Type 0
+GateGiven v b k kind x y r next = (p : Present) → Stands b p → (r ≡ v .edit (gateEdit p k kind x y)) × (next ≡ benchOf (afterGate p k kind x y))
+
+-- of pointing an output
+abbrev pub OutputGiven : (v : View) → Bench → ℕ → ℕ → v .Edits → Bench → Type 0
+OutputGiven v b j line r next = (p : Present) → Stands b p → (r ≡ v .edit (noRework (outputEditAnswer p j line))) × (next ≡ benchOf (afterOutput p j line))
+
+-- of changing an entry
+abbrev pub EntryGiven : (v : View) → Bench → ℕ → ℕ → v .Edits → Bench → Type 0
+EntryGiven v b i value r next = (p : Present) → Stands b p → (r ≡ v .edit (noRework (entryEditAnswer p i value))) × (next ≡ benchOf (afterEntry p i value))
+
+-- of setting the limits
+abbrev pub LimitsGiven : (v : View) → Bench → Limits → v .Edits → Bench → Type 0
+LimitsGiven v b l r next = (p : Present) → Stands b p → (r ≡ v .edit (noRework (limitsAnswer p))) × (next ≡ benchOf (afterLimits p l))
+
+-- of a report
+abbrev pub ReportGiven : (v : View) → Bench → v .Reports → Type 0
+ReportGiven v b r = (p : Present) → Stands b p → r ≡ v .report (reported p)
+
+-- of storing: its answer, and each byte of the room
+abbrev pub StoreGiven : (v : View) → Bench → List ℕ → v .Writings → List ℕ → Type 0
+StoreGiven v b room r out =
+    (p : Present) → Stands b p → (r ≡ v .writing (storeAnswer p (length room))) × (out ≡ roomAfter (storeAnswer p (length room)) (storedOf p) room)
+
+-- ---- the same with each answer as it is: what the functions by value promise, and those on a lent bench
+
+-- of an open
 abbrev pub OpenPromise : Bench → List ℕ → Target → Limits → Answer → Bench → Type 0
-OpenPromise b bytes t l answer next = (p : Present) → Stands b p → (answer ≡ openAnswer bytes t) × (next ≡ benchOf (afterOpen p bytes t l))
+OpenPromise = OpenGiven asTheyAre
 
 -- of replacing a gate
 abbrev pub GatePromise : Bench → ℕ → ℕ → ℕ → ℕ → Edit → Bench → Type 0
-GatePromise b k kind x y edit next = (p : Present) → Stands b p → (edit ≡ gateEdit p k kind x y) × (next ≡ benchOf (afterGate p k kind x y))
+GatePromise = GateGiven asTheyAre
 
 -- of pointing an output
 abbrev pub OutputPromise : Bench → ℕ → ℕ → Edit → Bench → Type 0
-OutputPromise b j line edit next = (p : Present) → Stands b p → (edit ≡ noRework (outputEditAnswer p j line)) × (next ≡ benchOf (afterOutput p j line))
+OutputPromise = OutputGiven asTheyAre
 
 -- of changing an entry
 abbrev pub EntryPromise : Bench → ℕ → ℕ → Edit → Bench → Type 0
-EntryPromise b i value edit next = (p : Present) → Stands b p → (edit ≡ noRework (entryEditAnswer p i value)) × (next ≡ benchOf (afterEntry p i value))
+EntryPromise = EntryGiven asTheyAre
 
 -- of setting the limits
 abbrev pub LimitsPromise : Bench → Limits → Edit → Bench → Type 0
-LimitsPromise b l edit next = (p : Present) → Stands b p → (edit ≡ noRework (limitsAnswer p)) × (next ≡ benchOf (afterLimits p l))
+LimitsPromise = LimitsGiven asTheyAre
 
 -- of a report
 abbrev pub ReportPromise : Bench → Reported → Type 0
-ReportPromise b r = (p : Present) → Stands b p → r ≡ reported p
+ReportPromise = ReportGiven asTheyAre
 
--- of storing: its answer, and each byte of the room
+-- of storing
 abbrev pub StorePromise : Bench → List ℕ → Writing → List ℕ → Type 0
-StorePromise b room r out = (p : Present) → Stands b p → (r ≡ storeAnswer p (length room)) × (out ≡ roomAfter (storeAnswer p (length room)) (storedOf p) room)
+StorePromise = StoreGiven asTheyAre

@@ -10,7 +10,7 @@ use Rattle.circuit.specs.declared.Circuit.{Circuit}
 use Rattle.circuit.specs.Gate.{Kind, bit, wordsOf, noWords}
 use Rattle.circuit.specs.Lines.{Gate, gateAt, upto, padded, inputWords, depths, andDepths, words}
 use Rattle.bench.specs.declared.Bench.{Bench}
-use Rattle.bench.specs.Target.{Target, matrix, table, isMatrix, bytesOf}
+use Rattle.bench.specs.Target.{Target, matrix, table, isMatrix, targetBytes}
 use Rattle.bench.specs.State.{State, Present, nothing, present, SoundPresent}
 
 -- the number whose bits are f 0, f 1, .., k of them
@@ -82,7 +82,7 @@ fullBench s =
       left = padded 248 0 (map (λ (q : Gate). q .left) (c .gates));
       right = padded 248 0 (map (λ (q : Gate). q .right) (c .gates));
       outputs = padded 32 0 (c .outs);
-      target = padded 256 0 (bytesOf (s .target));
+      target = padded 256 0 (targetBytes (s .target));
       wanted = padded 32 noWords (upto (wantedWords (s .target)) (length (c .outs)));
       depths = padded 256 0 (depths (c .inputs) (gateAt c) g);
       «and_depths» = padded 256 0 (andDepths (c .inputs) (gateAt c) g);

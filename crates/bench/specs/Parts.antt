@@ -12,6 +12,7 @@ use Rattle.circuit.specs.declared.Words.{Words}
 use Rattle.circuit.specs.declared.Circuit.{Circuit}
 use Rattle.circuit.specs.Gate.{Kind, wordsOf, noWords, valueIn}
 use Rattle.circuit.specs.Lines.{Gate, upto, lines, depthStep, andStep, wordsStep, inputWords, depths, reached, padded}
+use Rattle.circuit.specs.Stored.{gateOf}
 use Rattle.circuit.specs.Reading.{unless, shaped, gateAnswer, outAnswer}
 use Rattle.bench.specs.declared.Bench.{Bench}
 use Rattle.bench.specs.declared.Edited.{Edited}
@@ -19,7 +20,7 @@ use Rattle.bench.specs.declared.Verdict.{Verdict}
 use Rattle.bench.specs.declared.Verdict.the-variants.{Wrong, OverGates, OverDepth, OverAndDepth, Pass}
 use Rattle.bench.specs.Target.{rowFits, entryFits, targetOf}
 use Rattle.bench.specs.State.{least}
-use Rattle.bench.specs.Held.{wantedWords}
+use Rattle.bench.specs.Held.{wantedWords, circuitOf}
 use Rattle.bench.specs.Calls.{noRework}
 
 -- a row or an entry of a target of that kind keeps its rule
@@ -30,8 +31,8 @@ valueFits false n m value = entryFits m value
 -- ---- lines
 
 -- gate k of what stands on a bench
-abbrev pub gateOf : Bench → ℕ → Gate
-gateOf b k = record { kind = getD (b .kinds) k 0; left = getD (b .left) k 0; right = getD (b .right) k 0 }
+abbrev pub gateOn : Bench → ℕ → Gate
+gateOn b = gateOf (circuitOf b)
 
 -- the bench with other things held for its lines
 abbrev pub holding : Bench → List ℕ → List ℕ → List Words → Bench
@@ -68,7 +69,7 @@ examinedAs b gate =
 
 -- the bench with every line examined afresh
 abbrev pub examined : Bench → Bench
-examined b = examinedAs b (gateOf b)
+examined b = examinedAs b (gateOn b)
 
 -- each gate reads lines with numbers below its own
 abbrev pub AllBelow : ℕ → ℕ → (ℕ → Gate) → Type 0
@@ -82,8 +83,8 @@ Agree k old new = (j : ℕ) → (j ≡ k → ⊥) → new j ≡ old j
 -- nothing but what is held for lines is changed; and the lines reached from gate k are marked, and no others
 pub record Reexamined (b : Bench) (k : ℕ) (r : Bench) (marks : List Bool) : Type 0 where
   pub rest : r ≡ holding b (r .depths) (r .«and_depths») (r .values)
-  pub fresh : AllBelow (b .n) (b .g) (gateOf b) → (old : ℕ → Gate) → Agree k old (gateOf b) → b ≡ examinedAs b old → r ≡ examined b
-  pub marked : marks ≡ reached k (b .n) (gateOf b) (b .g) ++ replicate (256 - (b .n + b .g)) false
+  pub fresh : AllBelow (b .n) (b .g) (gateOn b) → (old : ℕ → Gate) → Agree k old (gateOn b) → b ≡ examinedAs b old → r ≡ examined b
+  pub marked : marks ≡ reached k (b .n) (gateOn b) (b .g) ++ replicate (256 - (b .n + b .g)) false
 
 -- ---- what a call looks at before it changes anything: 13, 12, and then the edit's own
 

@@ -1,14 +1,10 @@
 -- A sequence of calls: what is present after it by the definition, and what it may make of a bench by the promises of the functions.
 use mathlib.Core.List.{List, [], _∷_}
 use Prim.Native.Nat.{ℕ, _<_}
-use Rattle.circuit.specs.declared.Answer.{Answer}
-use Rattle.circuit.specs.declared.Writing.{Writing}
 use Rattle.bench.specs.declared.Bench.{Bench}
-use Rattle.bench.specs.declared.Edit.{Edit}
-use Rattle.bench.specs.declared.Reported.{Reported}
 use Rattle.bench.specs.Target.{Target}
 use Rattle.bench.specs.State.{Limits, Present, nothing}
-use Rattle.bench.specs.Calls.{afterOpen, afterGate, afterOutput, afterEntry, afterLimits, OpenPromise, GatePromise, OutputPromise, EntryPromise, LimitsPromise, ReportPromise, StorePromise}
+use Rattle.bench.specs.Calls.{afterOpen, afterGate, afterOutput, afterEntry, afterLimits, View, asTheyAre, OpenGiven, GateGiven, OutputGiven, EntryGiven, LimitsGiven, ReportGiven, StoreGiven}
 
 -- the calls, with what each is given: stored bytes, a target of either kind and limits; gate, kind and operands; output and
 -- line; entry and value; limits; nothing; and the room that is lent
@@ -48,17 +44,25 @@ pub record ByteLimits (l : Limits) : Type 0 where
 
 -- one call on a bench, with some answer: what is known of the bench after it is the function's promise; report and store
 -- take the bench by value, and the caller's is as it was
-pub data Step (b : Bench) : Call → Bench → Type 0 where
-  opened : {bytes : List ℕ} {t : Target} {l : Limits} {next : Bench} (answer : Answer)
-      → ByteLimits l → OpenPromise b bytes t l answer next → Step b (opening bytes t l) next
-  replaced : {k kind x y : ℕ} {next : Bench} (edit : Edit) → GatePromise b k kind x y edit next → Step b (replacing k kind x y) next
-  pointed : {j line : ℕ} {next : Bench} (edit : Edit) → OutputPromise b j line edit next → Step b (pointing j line) next
-  changed : {i value : ℕ} {next : Bench} (edit : Edit) → EntryPromise b i value edit next → Step b (changing i value) next
-  limited : {l : Limits} {next : Bench} (edit : Edit) → ByteLimits l → LimitsPromise b l edit next → Step b (limiting l) next
-  reported : (r : Reported) → ReportPromise b r → Step b reporting b
-  stored : {room : List ℕ} (r : Writing) (out : List ℕ) → StorePromise b room r out → Step b (storing room) b
+pub data StepGiven (v : View) (b : Bench) : Call → Bench → Type 0 where
+  opened : {bytes : List ℕ} {t : Target} {l : Limits} {next : Bench} (answer : v .Answers)
+      → ByteLimits l → OpenGiven v b bytes t l answer next → StepGiven v b (opening bytes t l) next
+  replaced : {k kind x y : ℕ} {next : Bench} (edit : v .Edits) → GateGiven v b k kind x y edit next → StepGiven v b (replacing k kind x y) next
+  pointed : {j line : ℕ} {next : Bench} (edit : v .Edits) → OutputGiven v b j line edit next → StepGiven v b (pointing j line) next
+  changed : {i value : ℕ} {next : Bench} (edit : v .Edits) → EntryGiven v b i value edit next → StepGiven v b (changing i value) next
+  limited : {l : Limits} {next : Bench} (edit : v .Edits) → ByteLimits l → LimitsGiven v b l edit next → StepGiven v b (limiting l) next
+  reported : (r : v .Reports) → ReportGiven v b r → StepGiven v b reporting b
+  stored : {room : List ℕ} (r : v .Writings) (out : List ℕ) → StoreGiven v b room r out → StepGiven v b (storing room) b
 
--- one call after the other
-pub data Runs : Bench → List Call → Bench → Type 0 where
-  none : {b : Bench} → Runs b [] b
-  more : {b : Bench} {call : Call} {calls : List Call} (mid : Bench) {last : Bench} → Step b call mid → Runs mid calls last → Runs b (call ∷ calls) last
+-- one call with its answer as it is
+abbrev pub Step : Bench → Call → Bench → Type 0
+Step = StepGiven asTheyAre
+
+-- one call after the other, each such a step
+pub data RunsBy (step : Bench → Call → Bench → Type 0) : Bench → List Call → Bench → Type 0 where
+  none : {b : Bench} → RunsBy step b [] b
+  more : {b : Bench} {call : Call} {calls : List Call} (mid : Bench) {last : Bench} → step b call mid → RunsBy step mid calls last → RunsBy step b (call ∷ calls) last
+
+-- the same with the answers as they are
+abbrev pub Runs : Bench → List Call → Bench → Type 0
+Runs = RunsBy Step

@@ -1,11 +1,11 @@
 -- Targets ("Targets, limits and report"): what a matrix or a table wants of each output, and the rules that it keeps.
 use mathlib.Core.Bool.{Bool, true, false, _&&_}
 use mathlib.Core.List.{List, [], _∷_}
-use Prim.Native.Nat.{ℕ, zero, suc, _^_}
-use lib.Bits.{bitAnd, differ}
+use Prim.Native.Nat.{ℕ, _^_}
+use lib.Bits.{bitAnd}
 use lib.Dec.{leb, ltb, eqb}
 use lib.ListN.{length, getD}
-use Rattle.circuit.specs.Gate.{bit}
+use Rattle.circuit.specs.Gate.{bit, parity}
 
 -- a matrix has a row for each output, the mask of the inputs summed into it; a table has an entry for each input value
 pub data Target : Type 0 where
@@ -23,14 +23,9 @@ isMatrix (matrix rows) = true
 isMatrix (table entries) = false
 
 -- the rows or the entries
-abbrev pub bytesOf : Target → List ℕ
-bytesOf (matrix rows) = rows
-bytesOf (table entries) = entries
-
--- the sum modulo 2 of the lowest k bits of a
-abbrev pub parity : ℕ → ℕ → ℕ
-parity zero a = 0
-parity (suc k) a = differ (parity k a) (bit k a)
+abbrev pub targetBytes : Target → List ℕ
+targetBytes (matrix rows) = rows
+targetBytes (table entries) = entries
 
 -- what the target wants of output j on input value x: the parity of row and input; bit j of the entry
 abbrev pub wants : Target → ℕ → ℕ → ℕ

@@ -1,7 +1,7 @@
 // The edits: each looks first, and changes the bench only where nothing is left to refuse.
 ghost use mathlib.Core.Path.{_≡_};
 ghost use mathlib.Core.Bool.{cond};
-ghost use Prim.Native.Nat.{_^_, _<_, _≤_};
+ghost use Prim.Native.Nat.{_^_, _≤_};
 ghost use Rattle.circuit.specs.declared.Answer.the-variants.{Refused};
 ghost use Rattle.bench.specs.Calls.{reworking, GatePromise, OutputPromise, EntryPromise, LimitsPromise};
 ghost use Rattle.bench.specs.State.{limits};

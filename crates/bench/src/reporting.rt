@@ -1,7 +1,7 @@
 // The report: counts, depths and the verdict, from what is held. Words are compared, 64 inputs at a time; a single input
 // is looked at only where a word differs.
 ghost use mathlib.Core.Path.{_≡_};
-ghost use Prim.Native.Nat.{_+_, _<_, _≤_};
+ghost use Prim.Native.Nat.{_<_, _≤_};
 ghost use lib.Dec.{eqb};
 ghost use Rattle.circuit.specs.Gate.{bit, valueIn};
 ghost use Rattle.bench.specs.State.{least};

@@ -1,6 +1,5 @@
 // The target: its rules, and what it wants of each output in words.
 ghost use mathlib.Core.Path.{_≡_};
-ghost use mathlib.Core.Bool.{true};
 ghost use Prim.Native.Nat.{_+_, _<_, _≤_};
 ghost use lib.ListN.{getD};
 ghost use Rattle.circuit.specs.Gate.{bit, noWords};

@@ -8,18 +8,17 @@ use borrow.Author.Tests.{ltb-false}
 use lib.Dec.{eqb}
 use lib.ListN.{length, getD, take, replicate, length-append, length-map, length-replicate, replicate-append-replicate}
 use lib.Seq.{take-at}
-use Rattle.circuit.specs.Lines as circuits
-use Rattle.circuit.specs.Lines.{padded}
+use Rattle.circuit.specs.Lines.{padded, Gate}
 use Rattle.circuit.specs.Stored.{held}
 use Rattle.circuit.proofs.Padding.{padded-none}
-use Rattle.distance.specs.Base.{Line, line, lines, Gate, made, run, Small, Shallow, inputs, weight}
+use Rattle.distance.specs.Base.{Line, line, baseOf, Xor, made, run, Small, Shallow, inputs, weight}
 use Rattle.distance.specs.Distance.{gates, distance}
 use Rattle.distance.proofs.Fewest.{distance-fewest, fewest-distance}
 use Rattle.distance.proofs.Weight.{distance-inputs, small-inputs, no-weight, weight-le}
 use Rattle.builder.specs.declared.grow.State.{State}
-use Rattle.builder.specs.Rule.{Row, row, reach, count, distances, sum, lowest, taken, nextGate, greedy, xorGate, circuitOf}
+use Rattle.builder.specs.Rule.{Row, row, reach, count, distances, sum, lowest, taken, nextGate, greedy, xorGate, greedyCircuit}
 use Rattle.builder.specs.Call.{within, built, tooHeavy}
-use Rattle.builder.specs.Kept.{Sounds, Alive, rowsOf, base, Poised, Stands, Grown, Fit, Begun}
+use Rattle.builder.specs.Kept.{SoundRows, Alive, rowsOf, base, Poised, SoFar, Grown, Fit, Begun}
 use Rattle.builder.proofs.Refusals.{Accepted, fit, any-none}
 
 -- ---- one limit for all rows
@@ -38,7 +37,7 @@ pub rows-within : (D : ℕ) (ts : List ℕ) → length ts ≤ 32 → rowsOf ts (
 rows-within D ts h = ap (rowsOf ts) (limits-taken (length ts) D h) ∙ rows-same D ts
 
 -- ---- the inputs
-is-inputs : (n : ℕ) → n ≤ 8 → lines (take n (1 ∷ 2 ∷ 4 ∷ 8 ∷ 16 ∷ 32 ∷ 64 ∷ 128 ∷ replicate 248 0)) (take n (replicate 256 0)) ≡ inputs n
+is-inputs : (n : ℕ) → n ≤ 8 → baseOf (take n (1 ∷ 2 ∷ 4 ∷ 8 ∷ 16 ∷ 32 ∷ 64 ∷ 128 ∷ replicate 248 0)) (take n (replicate 256 0)) ≡ inputs n
 is-inputs zero h = refl
 is-inputs (suc zero) h = refl
 is-inputs (suc (suc zero)) h = refl
@@ -56,7 +55,7 @@ inputs-length (suc n) = omega (arith, length-append (inputs n) (line (2 ^ n) 0 �
 
 pub begun-base : (n : ℕ) (ts : List ℕ) (s : State) → n ≤ 8 → Begun n ts s → base s ≡ inputs n
 unfolding base
-begun-base n ts s h b = (λ i. lines (take (b .long i) (b .masks-are i)) (take (b .long i) (b .depths-are i))) ∙ is-inputs n h
+begun-base n ts s h b = (λ i. baseOf (take (b .long i) (b .masks-are i)) (take (b .long i) (b .depths-are i))) ∙ is-inputs n h
 
 -- ---- the rows' distances from the inputs
 
@@ -91,7 +90,7 @@ module _ (n D : ℕ) (inputs-few : n ≤ 8) (depth : D ≤ 15) where
   first-alive [] f = tt
   first-alive (t ∷ ts) f = ((weight n t - 1, reach-inputs n D t inputs-few depth (f 0 (omega arith))), first-alive ts (λ i h. f (suc i) (omega arith)))
 
-  pub first-sound : (ts : List ℕ) → Rights ts → Sounds (within D ts)
+  pub first-sound : (ts : List ℕ) → Rights ts → SoundRows (within D ts)
   first-sound [] f = tt
   first-sound (t ∷ ts) f = (record { some = f 0 (omega arith) .some; shallow = omega arith }, first-sound ts (λ i h. f (suc i) (omega arith)))
 
@@ -146,7 +145,7 @@ module _ (n : ℕ) (ts : List ℕ) (D : ℕ) (a : Accepted n ts D) (s : State) (
         shallow = subst Shallow (sym (b .depths-are)) zeros;
         paired = sym (ap length (limits-taken (length ts) D (few .few)) ∙ length-replicate (length ts) D);
         few = few .few;
-        sound = subst Sounds (sym rows-are) (first-sound n D (few .inputs) (a .depth) ts R);
+        sound = subst SoundRows (sym rows-are) (first-sound n D (few .inputs) (a .depth) ts R);
         small = subst (Small 8) (sym base-is) (small-inputs 8 n (few .inputs));
         alive = rw (base-is, rows-are) (first-alive n D (few .inputs) (a .depth) ts R);
         near = rw (base-is, rows-are) (omega (arith, sum-small));
@@ -154,7 +153,7 @@ module _ (n : ℕ) (ts : List ℕ) (D : ℕ) (a : Accepted n ts D) (s : State) (
             b .gaps-are ∙ ap (padded 32 0) (first-distances n D (few .inputs) (a .depth) ts R ∙ (λ i. distances (sym base-is i) (sym rows-are i)));
       }
 
-  pub stands : Stands (base s) ts limits s
+  pub stands : SoFar (base s) ts limits s
   unfolding taken
   stands =
       let z : 224 - s .count ≡ 224 = omega (arith, b .none) in
@@ -173,22 +172,22 @@ module _ (n : ℕ) (ts : List ℕ) (D : ℕ) (a : Accepted n ts D) (s : State) (
 
 -- ---- the circuit as the code holds it
 module _ (cap : ℕ) where
-  kinds-zero : (gs : List Gate) → length gs ≤ cap → replicate cap 0 ≡ map (λ (q : circuits.Gate). q .kind) (map xorGate gs) ++ replicate (cap - length (map xorGate gs)) 0
+  kinds-zero : (gs : List Xor) → length gs ≤ cap → replicate cap 0 ≡ map (λ (q : Gate). q .kind) (map xorGate gs) ++ replicate (cap - length (map xorGate gs)) 0
   kinds-zero gs h =
       let e : cap ≡ length gs + (cap - length (map xorGate gs)) = omega (arith, length-map gs xorGate) in
       ap (λ (x : ℕ). replicate x 0) e
       ∙ sym (replicate-append-replicate (length gs) (cap - length (map xorGate gs)) 0)
       ∙ ap (λ (l : List ℕ). l ++ replicate (cap - length (map xorGate gs)) 0) (zeros gs)
     where
-      zeros : (gs : List Gate) → replicate (length gs) 0 ≡ map (λ (q : circuits.Gate). q .kind) (map xorGate gs)
+      zeros : (gs : List Xor) → replicate (length gs) 0 ≡ map (λ (q : Gate). q .kind) (map xorGate gs)
       zeros [] = refl
       zeros (g ∷ gs) = ap (λ (l : List ℕ). 0 ∷ l) (zeros gs)
 
-  column : (f : Gate → ℕ) (f′ : circuits.Gate → ℕ) → ((g : Gate) → f g ≡ f′ (xorGate g)) → (gs : List Gate)
+  column : (f : Xor → ℕ) (f′ : Gate → ℕ) → ((g : Xor) → f g ≡ f′ (xorGate g)) → (gs : List Xor)
       → padded cap 0 (map f gs) ≡ map f′ (map xorGate gs) ++ replicate (cap - length (map xorGate gs)) 0
   column f f′ e gs = ap₂ (λ (l : List ℕ) (k : ℕ). l ++ replicate (cap - k) 0) (same gs) (length-map gs f ∙ sym (length-map gs xorGate))
     where
-      same : (gs : List Gate) → map f gs ≡ map f′ (map xorGate gs)
+      same : (gs : List Xor) → map f gs ≡ map f′ (map xorGate gs)
       same [] = refl
       same (g ∷ gs) = ap₂ (λ (x : ℕ) (l : List ℕ). x ∷ l) (e g) (same gs)
 
@@ -196,7 +195,7 @@ pub greedy-few : (f : ℕ) (ls : List Line) (rs : List Row) → length (greedy f
 greedy-few zero ls rs = omega arith
 greedy-few (suc f) ls rs = let g = nextGate ls rs in go (eqb (sum (distances ls rs)) 0) (greedy f (ls ++ (made ls g ∷ [])) rs) (greedy-few f (ls ++ (made ls g ∷ [])) rs)
   where
-    go : (x : Bool) (l : List Gate) → length l ≤ f → length (cond x [] (nextGate ls rs ∷ l)) ≤ suc f
+    go : (x : Bool) (l : List Xor) → length l ≤ f → length (cond x [] (nextGate ls rs ∷ l)) ≤ suc f
     go true l h = omega arith
     go false l h = omega arith
 
@@ -207,13 +206,13 @@ taken-few ls rs = greedy-few 224 ls rs
 pub circuit-held : (n : ℕ) (ts : List ℕ) (D : ℕ) (s : State) (outs : List ℕ) → length ts ≤ 32 → Grown (inputs n) (within D ts) s
     → outs ≡ padded 32 0 (map (lowest (base s)) (within D ts))
     → record { n = n; m = length ts; g = s .count; kinds = replicate 248 0; left = s .left; right = s .right; outputs = outs } ≡ held (built n ts D)
-unfolding built circuitOf
+unfolding built greedyCircuit
 circuit-held n ts D s outs h g e =
     let gs = taken (inputs n) (within D ts) in
     let few = taken-few (inputs n) (within D ts) in
     let k = kinds-zero 248 gs (omega arith) in
-    let l = g .lefts ∙ column 248 (λ (q : Gate). q .a) (λ (q : circuits.Gate). q .left) (λ q. refl) gs in
-    let r = g .rights ∙ column 248 (λ (q : Gate). q .b) (λ (q : circuits.Gate). q .right) (λ q. refl) gs in
+    let l = g .lefts ∙ column 248 (λ (q : Xor). q .a) (λ (q : Gate). q .left) (λ q. refl) gs in
+    let r = g .rights ∙ column 248 (λ (q : Xor). q .b) (λ (q : Gate). q .right) (λ q. refl) gs in
     let o = e ∙ ap (λ (x : List Line). padded 32 0 (map (lowest x) (within D ts))) (g .lines-are) in
     let c = g .counted ∙ sym (length-map gs xorGate) in
     let m : length ts ≡ length (map (lowest (run (inputs n) gs)) (within D ts)) = sym (length-map (within D ts) (lowest (run (inputs n) gs)) ∙ length-map ts (λ (t : ℕ). row t D)) in

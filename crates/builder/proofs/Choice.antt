@@ -11,13 +11,13 @@ use lib.Bits.{bitXor}
 use lib.Dec.{leb, eqb}
 use lib.ListN.{length, getD, drop, drop-of-length-le}
 use Rattle.circuit.proofs.Depths.{deeper-is}
-use Rattle.distance.specs.Base.{Line, lines, Gate, gate, made, Shallow}
+use Rattle.distance.specs.Base.{Line, baseOf, Xor, xor, made, Shallow}
 use Rattle.builder.specs.Rule.{Row, row, away, distances, sum, squares, makes, firstIn, firstPair, immediate, Best, best, better, scored, consider, alongLine, allPairs, bestPair, nextGate}
 use Rattle.builder.specs.Kept.{rowsOf}
 use Rattle.builder.proofs.Lists.{made-at, drop-at-next, rows-at, rows-length}
 
 -- ---- one pair against the best so far
-module _ (ls : List Line) (after : Gate → List ℕ) (top : ℕ) (g : Gate) (b : Best) where
+module _ (ls : List Line) (after : Xor → List ℕ) (top : ℕ) (g : Xor) (b : Best) where
   pub consider-deep : top < made ls g .depth → consider ls after top g b ≡ b
   consider-deep h = rw (lt-leb (made ls g .depth) top h)
 
@@ -39,12 +39,12 @@ module _ (ls : List Line) (after : Gate → List ℕ) (top : ℕ) (g : Gate) (b 
       within h ∙ ap₂ (λ (y z : ℕ). cond (better (best y z g) b) (best y z g) b) a c ∙ ap (λ (y : Bool). cond y (best s q g) b) v
 
 -- ---- the loops over pairs
-module _ (ls : List Line) (after : Gate → List ℕ) (top : ℕ) where
-  along : (f i j : ℕ) (b : Best) → 0 < f → alongLine ls after top f i j b ≡ alongLine ls after top (f - 1) i (j + 1) (consider ls after top (gate i j) b)
+module _ (ls : List Line) (after : Xor → List ℕ) (top : ℕ) where
+  along : (f i j : ℕ) (b : Best) → 0 < f → alongLine ls after top f i j b ≡ alongLine ls after top (f - 1) i (j + 1) (consider ls after top (xor i j) b)
   along zero i j b h = absurd (omega arith)
   along (suc f) i j b h = let p : suc f - 1 ≡ f = omega arith in rw (p, add-one)
 
-  pub along-more : (e i j : ℕ) (b c : Best) → j < e → consider ls after top (gate i j) b ≡ c → alongLine ls after top (e - j) i j b ≡ alongLine ls after top (e - (j + 1)) i (j + 1) c
+  pub along-more : (e i j : ℕ) (b c : Best) → j < e → consider ls after top (xor i j) b ≡ c → alongLine ls after top (e - j) i j b ≡ alongLine ls after top (e - (j + 1)) i (j + 1) c
   along-more e i j b c h q =
       let p : e - j - 1 ≡ e - (j + 1) = omega arith in
       along (e - j) i j b (omega arith) ∙ ap₂ (λ (x : ℕ) (y : Best). alongLine ls after top x i (j + 1) y) p q
@@ -67,15 +67,15 @@ module _ (ls : List Line) (after : Gate → List ℕ) (top : ℕ) where
   pairs-end e i b h = let p : e - i ≡ 0 = omega arith in rw p
 
 -- two ways to weigh that give each pair the same two sums choose the same pair
-module _ (ls : List Line) (after after′ : Gate → List ℕ) (top : ℕ)
-    (same : (i j : ℕ) → i < j → j < length ls → (sum (after (gate i j)) ≡ sum (after′ (gate i j))) × (squares (after (gate i j)) ≡ squares (after′ (gate i j)))) where
+module _ (ls : List Line) (after after′ : Xor → List ℕ) (top : ℕ)
+    (same : (i j : ℕ) → i < j → j < length ls → (sum (after (xor i j)) ≡ sum (after′ (xor i j))) × (squares (after (xor i j)) ≡ squares (after′ (xor i j)))) where
   same-line : (f i j : ℕ) (b : Best) → i < j → j + f ≤ length ls → alongLine ls after top f i j b ≡ alongLine ls after′ top f i j b
   same-line zero i j b p q = refl
   same-line (suc f) i j b p q =
       let s = same i j p (omega arith) in
-      same-line f i (suc j) (consider ls after top (gate i j) b) (omega arith) (omega arith)
+      same-line f i (suc j) (consider ls after top (xor i j) b) (omega arith) (omega arith)
       ∙ ap (alongLine ls after′ top f i (suc j))
-      (ap₂ (λ (x y : ℕ). cond (leb (made ls (gate i j) .depth) top) (cond (better (best x y (gate i j)) b) (best x y (gate i j)) b) b) (s .0) (s .1))
+      (ap₂ (λ (x y : ℕ). cond (leb (made ls (xor i j) .depth) top) (cond (better (best x y (xor i j)) b) (best x y (xor i j)) b) b) (s .0) (s .1))
 
   pub same-pairs : (f i : ℕ) (b : Best) → i + f ≤ length ls → allPairs ls after top f i b ≡ allPairs ls after′ top f i b
   same-pairs zero i b p = refl
@@ -83,40 +83,40 @@ module _ (ls : List Line) (after after′ : Gate → List ℕ) (top : ℕ)
       same-pairs f (suc i) (alongLine ls after top (length ls - suc i) i (suc i) b) (omega arith)
       ∙ ap (allPairs ls after′ top f (suc i)) (same-line (length ls - suc i) i (suc i) b (omega arith) (omega arith))
 
-pub best-eq : {s s′ q q′ i i′ j j′ : ℕ} → s ≡ s′ → q ≡ q′ → i ≡ i′ → j ≡ j′ → best s q (gate i j) ≡ best s′ q′ (gate i′ j′)
-best-eq p q u v = λ k. best (p k) (q k) (gate (u k) (v k))
+pub best-eq : {s s′ q q′ i i′ j j′ : ℕ} → s ≡ s′ → q ≡ q′ → i ≡ i′ → j ≡ j′ → best s q (xor i j) ≡ best s′ q′ (xor i′ j′)
+best-eq p q u v = λ k. best (p k) (q k) (xor (u k) (v k))
 
 -- ---- the pair (i, j) of two lists: w is its depth
 module _ (ms ds : List ℕ) (i j w : ℕ) (l : length ms ≡ length ds) (shallow : Shallow ds) (e : w ≡ min 255 (suc (max (getD ds i 0) (getD ds j 0)))) where
-  pub depth-at : made (lines ms ds) (gate i j) .depth ≡ w
+  pub depth-at : made (baseOf ms ds) (xor i j) .depth ≡ w
   depth-at = ap (λ (x : Line). x .depth) (made-at ms ds i j l) ∙ sym (deeper-is (getD ds i 0) (getD ds j 0) w (omega (arith, shallow i)) (omega (arith, shallow j)) e)
 
-  mask-at : made (lines ms ds) (gate i j) .mask ≡ bitXor (getD ms i 0) (getD ms j 0)
+  mask-at : made (baseOf ms ds) (xor i j) .mask ≡ bitXor (getD ms i 0) (getD ms j 0)
   mask-at = ap (λ (x : Line). x .mask) (made-at ms ds i j l)
 
-  pub makes-yes : (t D : ℕ) → bitXor (getD ms i 0) (getD ms j 0) ≡ t → w ≤ D → makes (row t D) (made (lines ms ds) (gate i j)) ≡ true
-  makes-yes t D p q = rw (eq-eqb (made (lines ms ds) (gate i j) .mask) t (mask-at ∙ p), le-leb (made (lines ms ds) (gate i j) .depth) D (omega (arith, depth-at)))
+  pub makes-yes : (t D : ℕ) → bitXor (getD ms i 0) (getD ms j 0) ≡ t → w ≤ D → makes (row t D) (made (baseOf ms ds) (xor i j)) ≡ true
+  makes-yes t D p q = rw (eq-eqb (made (baseOf ms ds) (xor i j) .mask) t (mask-at ∙ p), le-leb (made (baseOf ms ds) (xor i j) .depth) D (omega (arith, depth-at)))
 
-  pub makes-deep : (t D : ℕ) → bitXor (getD ms i 0) (getD ms j 0) ≡ t → D < w → makes (row t D) (made (lines ms ds) (gate i j)) ≡ false
-  makes-deep t D p q = rw (eq-eqb (made (lines ms ds) (gate i j) .mask) t (mask-at ∙ p), lt-leb (made (lines ms ds) (gate i j) .depth) D (omega (arith, depth-at)))
+  pub makes-deep : (t D : ℕ) → bitXor (getD ms i 0) (getD ms j 0) ≡ t → D < w → makes (row t D) (made (baseOf ms ds) (xor i j)) ≡ false
+  makes-deep t D p q = rw (eq-eqb (made (baseOf ms ds) (xor i j) .mask) t (mask-at ∙ p), lt-leb (made (baseOf ms ds) (xor i j) .depth) D (omega (arith, depth-at)))
 
-pub makes-other : (ms ds : List ℕ) (i j t D : ℕ) → length ms ≡ length ds → (bitXor (getD ms i 0) (getD ms j 0) ≡ t → ⊥) → makes (row t D) (made (lines ms ds) (gate i j)) ≡ false
+pub makes-other : (ms ds : List ℕ) (i j t D : ℕ) → length ms ≡ length ds → (bitXor (getD ms i 0) (getD ms j 0) ≡ t → ⊥) → makes (row t D) (made (baseOf ms ds) (xor i j)) ≡ false
 makes-other ms ds i j t D l p =
-    rw (ne-eqb (made (lines ms ds) (gate i j) .mask) t (λ q. p (sym (ap (λ (x : Line). x .mask) (made-at ms ds i j l)) ∙ q)))
+    rw (ne-eqb (made (baseOf ms ds) (xor i j) .mask) t (λ q. p (sym (ap (λ (x : Line). x .mask) (made-at ms ds i j l)) ∙ q)))
 
 -- ---- the first pair that makes a row
 module _ (ls : List Line) (r : Row) (e : ℕ) where
-  in-step : (f i j : ℕ) (g : Gate) (x : Bool) → 0 < f → makes r (made ls (gate i j)) ≡ x → firstIn ls r f i j g ≡ cond x (gate i j) (firstIn ls r (f - 1) i (j + 1) g)
+  in-step : (f i j : ℕ) (g : Xor) (x : Bool) → 0 < f → makes r (made ls (xor i j)) ≡ x → firstIn ls r f i j g ≡ cond x (xor i j) (firstIn ls r (f - 1) i (j + 1) g)
   in-step zero i j g x h p = absurd (omega arith)
   in-step (suc f) i j g x h p = let q : suc f - 1 ≡ f = omega arith in rw (q, add-one, p)
 
-  pub in-hit : (i j : ℕ) (g : Gate) → j < e → makes r (made ls (gate i j)) ≡ true → firstIn ls r (e - j) i j g ≡ gate i j
+  pub in-hit : (i j : ℕ) (g : Xor) → j < e → makes r (made ls (xor i j)) ≡ true → firstIn ls r (e - j) i j g ≡ xor i j
   in-hit i j g h p = in-step (e - j) i j g true (omega arith) p
 
-  pub in-miss : (i j : ℕ) (g : Gate) → j < e → makes r (made ls (gate i j)) ≡ false → firstIn ls r (e - j) i j g ≡ firstIn ls r (e - (j + 1)) i (j + 1) g
+  pub in-miss : (i j : ℕ) (g : Xor) → j < e → makes r (made ls (xor i j)) ≡ false → firstIn ls r (e - j) i j g ≡ firstIn ls r (e - (j + 1)) i (j + 1) g
   in-miss i j g h p = let q : e - j - 1 ≡ e - (j + 1) = omega arith in in-step (e - j) i j g false (omega arith) p ∙ rw q
 
-  pub in-end : (i j : ℕ) (g : Gate) → e ≤ j → firstIn ls r (e - j) i j g ≡ g
+  pub in-end : (i j : ℕ) (g : Xor) → e ≤ j → firstIn ls r (e - j) i j g ≡ g
   in-end i j g h = let q : e - j ≡ 0 = omega arith in rw q
 
   open-step : (f i : ℕ) → 0 < f → firstPair ls r f i ≡ firstIn ls r (length ls - (i + 1)) i (i + 1) (firstPair ls r (f - 1) (i + 1))
@@ -128,7 +128,7 @@ module _ (ls : List Line) (r : Row) (e : ℕ) where
       let q : e - i - 1 ≡ e - (i + 1) = omega arith in
       open-step (e - i) i (omega arith) ∙ ap₂ (λ (x y : ℕ). firstIn ls r (x - (i + 1)) i (i + 1) (firstPair ls r y (i + 1))) l q
 
-  pub pair-end : (i : ℕ) → e ≤ i → firstPair ls r (e - i) i ≡ gate 0 0
+  pub pair-end : (i : ℕ) → e ≤ i → firstPair ls r (e - i) i ≡ xor 0 0
   pair-end i h = let q : e - i ≡ 0 = omega arith in rw q
 
 -- ---- the rows: i of them are looked at, none is one gate away, and s is the sum of their distances

@@ -9,11 +9,11 @@ use native.Mathlib.Omega.{arith}
 use borrow.Author.Tests.{le-leb, leb-true, eqb-true, eqb-false, eq-eqb, ltb-true, ltb-false}
 use lib.Dec.{leb, ltb, eqb}
 use lib.ListN.{length}
-use Rattle.distance.specs.Base.{Line, Gate, gate, made, run, Reads, Small, Program}
+use Rattle.distance.specs.Base.{Line, Xor, xor, made, run, Reads, Small, Program}
 use Rattle.distance.specs.Distance.{gates}
 use Rattle.distance.proofs.Tests.{clash, both-cases}
 use Rattle.builder.specs.Rule.{Row, reach, count, away, distances, sum, deepest, makes, firstIn, firstPair, immediate, Best, start, better, scored, consider, alongLine, allPairs, distancesAfter, bestPair, nextGate, greedy}
-use Rattle.builder.specs.Kept.{Sound, Sounds, Alive}
+use Rattle.builder.specs.Kept.{SoundRow, SoundRows, Alive}
 use Rattle.builder.proofs.Reach.{small-made, reach-fewest, reach-more, reach-program, reach-pair, now-made, last-makes}
 
 -- a row is among the rows
@@ -21,7 +21,7 @@ pub data In (r : Row) : List Row → Type 0 where
   here : {rs : List Row} → In r (r ∷ rs)
   there : {t : Row} {rs : List Row} → In r rs → In r (t ∷ rs)
 
-sound-in : {r : Row} {rs : List Row} → Sounds rs → In r rs → Sound r
+sound-in : {r : Row} {rs : List Row} → SoundRows rs → In r rs → SoundRow r
 sound-in s here = s .0
 sound-in s (there i) = sound-in (s .1) i
 
@@ -31,25 +31,25 @@ limit-le (there i) = omega (arith, limit-le i)
 
 -- ---- one line more
 module _ (ls : List Line) (l : Line) (small : Small 8 ls) (smaller : Small 8 (ls ++ (l ∷ []))) where
-  pub alive-more : (rs : List Row) → Sounds rs → Alive ls rs → Alive (ls ++ (l ∷ [])) rs
+  pub alive-more : (rs : List Row) → SoundRows rs → Alive ls rs → Alive (ls ++ (l ∷ [])) rs
   alive-more [] s a = tt
   alive-more (r ∷ rs) s a = let u = reach-more ls l r small smaller (s .0) (a .0 .0) (a .0 .1) in ((u .at, u .is), alive-more rs (s .1) (a .1))
 
-  away-more : (r : Row) (g : ℕ) → Sound r → reach ls r ≡ gates g → away (ls ++ (l ∷ [])) r ≤ away ls r
+  away-more : (r : Row) (g : ℕ) → SoundRow r → reach ls r ≡ gates g → away (ls ++ (l ∷ [])) r ≤ away ls r
   away-more r g s e = let u = reach-more ls l r small smaller s g e in omega (arith, ap count (u .is), ap count e, u .le)
 
-  sum-more : (rs : List Row) → Sounds rs → Alive ls rs → sum (distances (ls ++ (l ∷ [])) rs) ≤ sum (distances ls rs)
+  sum-more : (rs : List Row) → SoundRows rs → Alive ls rs → sum (distances (ls ++ (l ∷ [])) rs) ≤ sum (distances ls rs)
   sum-more [] s a = omega arith
   sum-more (r ∷ rs) s a = omega (arith, away-more r (a .0 .0) (s .0) (a .0 .1), sum-more rs (s .1) (a .1))
 
-  sum-less : (u : Row) (rs : List Row) → Sounds rs → Alive ls rs → In u rs → away (ls ++ (l ∷ [])) u < away ls u → sum (distances (ls ++ (l ∷ [])) rs) < sum (distances ls rs)
+  sum-less : (u : Row) (rs : List Row) → SoundRows rs → Alive ls rs → In u rs → away (ls ++ (l ∷ [])) u < away ls u → sum (distances (ls ++ (l ∷ [])) rs) < sum (distances ls rs)
   sum-less u (r ∷ rs) s a here h = omega (arith, sum-more rs (s .1) (a .1))
   sum-less u (r ∷ rs) s a (there i) h = omega (arith, away-more r (a .0 .0) (s .0) (a .0 .1), sum-less u rs (s .1) (a .1) i h)
 
 -- ---- the best pair is no worse than any pair
 module _ (ls : List Line) (rs : List Row) where
   -- the sum of the distances after a gate
-  abbrev after : Gate → ℕ
+  abbrev after : Xor → ℕ
   after g = sum (distancesAfter ls rs g)
 
   record Valid (x : Best) : Type 0 where
@@ -62,7 +62,7 @@ module _ (ls : List Line) (rs : List Row) where
   Fair b = (4096 ≤ b .total) ⊎ Valid b
 
   -- what a pair leaves: no larger a sum, none larger than its own, and a fair one
-  record Left (g : Gate) (b r : Best) : Type 0 where
+  record Left (g : Xor) (b r : Best) : Type 0 where
     less : r .total ≤ b .total
     own : made ls g .depth ≤ deepest rs → r .total ≤ after g
     fair : Fair r
@@ -83,7 +83,7 @@ module _ (ls : List Line) (rs : List Row) where
       go true w = absurd (clash (better x b) (ap (λ (u : Bool). u || (eqb (x .total) (b .total) && ltb (b .square) (x .square))) w) e)
       go false w = ltb-false (x .total) (b .total) w
 
-  consider-left : (g : Gate) (b : Best) → g .a < length ls → g .b < length ls → Fair b → Left g b (consider ls (distancesAfter ls rs) (deepest rs) g b)
+  consider-left : (g : Xor) (b : Best) → g .a < length ls → g .b < length ls → Fair b → Left g b (consider ls (distancesAfter ls rs) (deepest rs) g b)
   consider-left g b ha hb f = go (leb (made ls g .depth) (deepest rs)) refl (better (scored (distances (ls ++ (made ls g ∷ [])) rs) g) b) refl
     where
       go : (y : Bool) → leb (made ls g .depth) (deepest rs) ≡ y → (z : Bool) → better (scored (distances (ls ++ (made ls g ∷ [])) rs) g) b ≡ z
@@ -100,21 +100,21 @@ module _ (ls : List Line) (rs : List Row) where
 
   record Line-left (i j f : ℕ) (b r : Best) : Type 0 where
     less : r .total ≤ b .total
-    own : (v : ℕ) → j ≤ v → v < j + f → made ls (gate i v) .depth ≤ deepest rs → r .total ≤ after (gate i v)
+    own : (v : ℕ) → j ≤ v → v < j + f → made ls (xor i v) .depth ≤ deepest rs → r .total ≤ after (xor i v)
     fair : Fair r
 
   line-left : (f i j : ℕ) (b : Best) → i < length ls → j + f ≤ length ls → Fair b → Line-left i j f b (alongLine ls (distancesAfter ls rs) (deepest rs) f i j b)
   line-left zero i j b hi hj q = record { less = omega arith; own = λ v p r. absurd (omega arith); fair = q }
   line-left (suc f) i j b hi hj q =
-      let c = consider-left (gate i j) b hi (omega arith) q in
-      let r = line-left f i (suc j) (consider ls (distancesAfter ls rs) (deepest rs) (gate i j) b) hi (omega arith) (c .fair) in
+      let c = consider-left (xor i j) b hi (omega arith) q in
+      let r = line-left f i (suc j) (consider ls (distancesAfter ls rs) (deepest rs) (xor i j) b) hi (omega arith) (c .fair) in
       record {
         less = omega (arith, c .less, r .less);
         own = λ v p s d.
             elim (ℕ-discrete j v) [
               | yes w ↦
-                  subst (λ (u : ℕ). alongLine ls (distancesAfter ls rs) (deepest rs) (suc f) i j b .total ≤ after (gate i u)) w
-                  (omega (arith, r .less, c .own (subst (λ (u : ℕ). made ls (gate i u) .depth ≤ deepest rs) (sym w) d)))
+                  subst (λ (u : ℕ). alongLine ls (distancesAfter ls rs) (deepest rs) (suc f) i j b .total ≤ after (xor i u)) w
+                  (omega (arith, r .less, c .own (subst (λ (u : ℕ). made ls (xor i u) .depth ≤ deepest rs) (sym w) d)))
               | no w ↦ r .own v (omega arith) (omega arith) d
             ];
         fair = r .fair;
@@ -122,7 +122,7 @@ module _ (ls : List Line) (rs : List Row) where
 
   record All (i f : ℕ) (b r : Best) : Type 0 where
     less : r .total ≤ b .total
-    own : (u v : ℕ) → i ≤ u → u < i + f → u < v → v < length ls → made ls (gate u v) .depth ≤ deepest rs → r .total ≤ after (gate u v)
+    own : (u v : ℕ) → i ≤ u → u < i + f → u < v → v < length ls → made ls (xor u v) .depth ≤ deepest rs → r .total ≤ after (xor u v)
     fair : Fair r
 
   all-left : (f i : ℕ) (b : Best) → i + f ≤ length ls → Fair b → All i f b (allPairs ls (distancesAfter ls rs) (deepest rs) f i b)
@@ -135,8 +135,8 @@ module _ (ls : List Line) (rs : List Row) where
         own = λ u v p s t w d.
             elim (ℕ-discrete i u) [
               | yes e ↦
-                  subst (λ (x : ℕ). allPairs ls (distancesAfter ls rs) (deepest rs) (suc f) i b .total ≤ after (gate x v)) e
-                  (omega (arith, r .less, c .own v (omega arith) (omega arith) (subst (λ (x : ℕ). made ls (gate x v) .depth ≤ deepest rs) (sym e) d)))
+                  subst (λ (x : ℕ). allPairs ls (distancesAfter ls rs) (deepest rs) (suc f) i b .total ≤ after (xor x v)) e
+                  (omega (arith, r .less, c .own v (omega arith) (omega arith) (subst (λ (x : ℕ). made ls (xor x v) .depth ≤ deepest rs) (sym e) d)))
               | no e ↦ r .own u v (omega arith) (omega arith) t w d
             ];
         fair = r .fair;
@@ -144,37 +144,37 @@ module _ (ls : List Line) (rs : List Row) where
 
 -- ---- the first pair that makes a row
 module _ (ls : List Line) (u : Row) where
-  record Good (g : Gate) : Type 0 where
+  record Good (g : Xor) : Type 0 where
     it : makes u (made ls g) ≡ true
     one : g .a < length ls
     two : g .b < length ls
 
-  first-ok : (f i j : ℕ) (g : Gate) → i < length ls → j + f ≤ length ls → Good g → Good (firstIn ls u f i j g)
+  first-ok : (f i j : ℕ) (g : Xor) → i < length ls → j + f ≤ length ls → Good g → Good (firstIn ls u f i j g)
   first-ok zero i j g hi hj q = q
-  first-ok (suc f) i j g hi hj q = go (makes u (made ls (gate i j))) refl (first-ok f i (suc j) g hi (omega arith) q)
+  first-ok (suc f) i j g hi hj q = go (makes u (made ls (xor i j))) refl (first-ok f i (suc j) g hi (omega arith) q)
     where
-      go : (x : Bool) → makes u (made ls (gate i j)) ≡ x → Good (firstIn ls u f i (suc j) g) → Good (cond x (gate i j) (firstIn ls u f i (suc j) g))
+      go : (x : Bool) → makes u (made ls (xor i j)) ≡ x → Good (firstIn ls u f i (suc j) g) → Good (cond x (xor i j) (firstIn ls u f i (suc j) g))
       go true e r = record { it = e; one = hi; two = omega arith }
       go false e r = r
 
-  first-hit : (f i j v : ℕ) (g : Gate) → i < length ls → j + f ≤ length ls → j ≤ v → v < j + f → makes u (made ls (gate i v)) ≡ true → Good (firstIn ls u f i j g)
+  first-hit : (f i j v : ℕ) (g : Xor) → i < length ls → j + f ≤ length ls → j ≤ v → v < j + f → makes u (made ls (xor i v)) ≡ true → Good (firstIn ls u f i j g)
   first-hit zero i j v g hi hj p q e = absurd (omega arith)
-  first-hit (suc f) i j v g hi hj p q e = go (makes u (made ls (gate i j))) refl (λ h. first-hit f i (suc j) v g hi (omega arith) h (omega arith) e)
+  first-hit (suc f) i j v g hi hj p q e = go (makes u (made ls (xor i j))) refl (λ h. first-hit f i (suc j) v g hi (omega arith) h (omega arith) e)
     where
-      go : (x : Bool) → makes u (made ls (gate i j)) ≡ x → (suc j ≤ v → Good (firstIn ls u f i (suc j) g)) → Good (cond x (gate i j) (firstIn ls u f i (suc j) g))
+      go : (x : Bool) → makes u (made ls (xor i j)) ≡ x → (suc j ≤ v → Good (firstIn ls u f i (suc j) g)) → Good (cond x (xor i j) (firstIn ls u f i (suc j) g))
       go true w r = record { it = w; one = hi; two = omega arith }
       go false w r =
           elim (ℕ-discrete j v) [
-            | yes s ↦ absurd (clash (makes u (made ls (gate i j))) (ap (λ (y : ℕ). makes u (made ls (gate i y))) s ∙ e) w)
+            | yes s ↦ absurd (clash (makes u (made ls (xor i j))) (ap (λ (y : ℕ). makes u (made ls (xor i y))) s ∙ e) w)
             | no s ↦ r (omega arith)
           ]
 
-  first-pair : (f i x v : ℕ) → i + f ≤ length ls → i ≤ x → x < i + f → x < v → v < length ls → makes u (made ls (gate x v)) ≡ true → Good (firstPair ls u f i)
+  first-pair : (f i x v : ℕ) → i + f ≤ length ls → i ≤ x → x < i + f → x < v → v < length ls → makes u (made ls (xor x v)) ≡ true → Good (firstPair ls u f i)
   first-pair zero i x v h p q r s e = absurd (omega arith)
   first-pair (suc f) i x v h p q r s e =
       elim (ℕ-discrete i x) [
         | yes w ↦
-            first-hit (length ls - suc i) i (suc i) v (firstPair ls u f (suc i)) (omega arith) (omega arith) (omega arith) (omega arith) (ap (λ (y : ℕ). makes u (made ls (gate y v))) w ∙ e)
+            first-hit (length ls - suc i) i (suc i) v (firstPair ls u f (suc i)) (omega arith) (omega arith) (omega arith) (omega arith) (ap (λ (y : ℕ). makes u (made ls (xor y v))) w ∙ e)
         | no w ↦ first-ok (length ls - suc i) i (suc i) (firstPair ls u f (suc i)) (omega arith) (omega arith) (first-pair f (suc i) x v (omega arith) (omega arith) (omega arith) r s e)
       ]
 
@@ -196,18 +196,18 @@ a-row ls (r ∷ rs) a h = go (a .0 .0) (a .0 .1) (λ k. a-row ls rs (a .1) k)
     go (suc g) e f = record { one = r; in-it = here; less = g; is = e }
 
 -- what a gate has to be: the sum falls, it reads two lines, and it is not too deep
-pub record Less (ls : List Line) (rs : List Row) (g : Gate) : Type 0 where
+pub record Less (ls : List Line) (rs : List Row) (g : Xor) : Type 0 where
   pub less : sum (distances (ls ++ (made ls g ∷ [])) rs) < sum (distances ls rs)
   pub one : g .a < length ls
   pub two : g .b < length ls
   pub deep : made ls g .depth ≤ deepest rs
 
-module _ (ls : List Line) (rs : List Row) (small : Small 8 ls) (sound : Sounds rs) (alive : Alive ls rs) where
-  abbrev smaller : (g : Gate) → Small 8 (ls ++ (made ls g ∷ []))
+module _ (ls : List Line) (rs : List Row) (small : Small 8 ls) (sound : SoundRows rs) (alive : Alive ls rs) where
+  abbrev smaller : (g : Xor) → Small 8 (ls ++ (made ls g ∷ []))
   smaller g = small-made 8 ls g small
 
   -- a gate after which a row has a program of fewer gates makes the sum fall
-  nearer : (u : Row) (k : ℕ) (g : Gate) → In u rs → reach ls u ≡ gates (suc k) → Program (ls ++ (made ls g ∷ [])) k (u .mask) (u .limit)
+  nearer : (u : Row) (k : ℕ) (g : Xor) → In u rs → reach ls u ≡ gates (suc k) → Program (ls ++ (made ls g ∷ [])) k (u .mask) (u .limit)
       → sum (distances (ls ++ (made ls g ∷ [])) rs) < sum (distances ls rs)
   nearer u k g i e p =
       let f = reach-program (ls ++ (made ls g ∷ [])) u (smaller g) (sound-in sound i) k p in
@@ -217,7 +217,7 @@ module _ (ls : List Line) (rs : List Row) (small : Small 8 ls) (sound : Sounds r
   best-less cap h =
       let r = a-row ls rs alive h in
       let p = reach-pair ls (r .one) small (sound-in sound (r .in-it)) (r .less) (r .is) in
-      let q = nearer (r .one) (r .less) (gate (p .i) (p .j)) (r .in-it) (r .is) (p .program) in
+      let q = nearer (r .one) (r .less) (xor (p .i) (p .j)) (r .in-it) (r .is) (p .program) in
       let w = all-left ls rs (length ls) 0 start (omega arith) (inl (omega arith)) in
       let o = w .own (p .i) (p .j) (omega arith) (omega (arith, p .order, p .within)) (p .order) (p .within) (omega (arith, p .depth, limit-le (r .in-it))) in
       ⊎-elim (λ y. absurd (omega (arith, y, o, q, cap))) (λ y. record { less = omega (arith, y .is, o, q); one = y .one; two = y .two; deep = y .deep }) (w .fair)
@@ -226,7 +226,7 @@ module _ (ls : List Line) (rs : List Row) (small : Small 8 ls) (sound : Sounds r
   one-less u i e =
       let ok = sound-in sound i in
       let p = reach-pair ls u small ok 0 e in
-      let pair = gate (p .i) (p .j) in
+      let pair = xor (p .i) (p .j) in
       let m = last-makes ls (made ls pair) (u .mask) (u .limit) (reach-fewest ls u small ok 1 e .least) (p .program) in
       let t : makes u (made ls pair) ≡ true = rw (eq-eqb (made ls pair .mask) (u .mask) (m .0), le-leb (made ls pair .depth) (u .limit) (m .1)) in
       let g = first-pair ls u (length ls) 0 (p .i) (p .j) (omega arith) (omega arith) (omega (arith, p .order, p .within)) (p .order) (p .within) t in
@@ -241,7 +241,7 @@ module _ (ls : List Line) (rs : List Row) (small : Small 8 ls) (sound : Sounds r
         deep = omega (arith, depth, limit-le i);
       }
 
-  immediate-less : (us : List Row) → ((u : Row) → In u us → In u rs) → Alive ls us → (g : Gate) → Less ls rs g → Less ls rs (immediate ls us g)
+  immediate-less : (us : List Row) → ((u : Row) → In u us → In u rs) → Alive ls us → (g : Xor) → Less ls rs g → Less ls rs (immediate ls us g)
   immediate-less [] f al g q = q
   immediate-less (u ∷ us) f al g q = go (eqb (away ls u) 1) refl (immediate-less us (λ v i. f v (there i)) (al .1) g q)
     where
@@ -266,7 +266,7 @@ within-snoc D [] l w h = (h, tt)
 within-snoc D (x ∷ ls) l w h = (w .0, within-snoc D ls l (w .1) h)
 
 -- the gates make every row, are at most as many as the first distances sum to, read lines below their own, and are not too deep
-pub record Reached (ls : List Line) (rs : List Row) (gs : List Gate) : Type 0 where
+pub record Reached (ls : List Line) (rs : List Row) (gs : List Xor) : Type 0 where
   pub done : sum (distances (run ls gs) rs) ≡ 0
   pub few : length gs ≤ sum (distances ls rs)
   pub reads : Reads ls gs
@@ -274,7 +274,7 @@ pub record Reached (ls : List Line) (rs : List Row) (gs : List Gate) : Type 0 wh
   pub small : Small 8 (run ls gs)
   pub deep : (D : ℕ) → deepest rs ≤ D → Within D ls → Within D (run ls gs)
 
-pub enough : (f : ℕ) (ls : List Line) (rs : List Row) → Small 8 ls → Sounds rs → Alive ls rs → sum (distances ls rs) ≤ 4096 → sum (distances ls rs) ≤ f → Reached ls rs (greedy f ls rs)
+pub enough : (f : ℕ) (ls : List Line) (rs : List Row) → Small 8 ls → SoundRows rs → Alive ls rs → sum (distances ls rs) ≤ 4096 → sum (distances ls rs) ≤ f → Reached ls rs (greedy f ls rs)
 enough zero ls rs s z a c h = record { done = omega arith; few = omega arith; reads = tt; alive = a; small = s; deep = λ D p w. w }
 enough (suc f) ls rs s z a c h =
     let g = nextGate ls rs in

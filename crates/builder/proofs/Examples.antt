@@ -5,29 +5,29 @@ use Rattle.circuit.specs.declared.Answer.the-variants.{Done, Refused}
 use Rattle.circuit.specs.declared.Refusal.the-variants.{TooShallow}
 use Rattle.circuit.specs.Stored.{stored, gateBytes, outBytes}
 use Rattle.circuit.specs.Reading.{shaped}
-use Rattle.distance.specs.Base.{gate}
-use Rattle.builder.specs.Rule.{reach, taken, xorGate, circuitOf}
+use Rattle.distance.specs.Base.{xor}
+use Rattle.builder.specs.Rule.{reach, taken, xorGate, greedyCircuit}
 use Rattle.builder.specs.Call.{built, refusal}
 
 pub k1 : stored (built 3 (3 ∷ 7 ∷ 6 ∷ []) 2)
     ≡ 0x53 ∷ 0x48 ∷ 3 ∷ 3 ∷ 3 ∷ 0x47 ∷ 0x54 ∷ 0 ∷ 0 ∷ 1 ∷ 0x47 ∷ 0x54 ∷ 0 ∷ 2 ∷ 3 ∷ 0x47 ∷ 0x54 ∷ 0 ∷ 1 ∷ 2 ∷ 0x4F ∷ 0x50 ∷ 3 ∷ 0x4F ∷ 0x50 ∷ 4 ∷ 0x4F ∷ 0x50 ∷ 5 ∷ []
-unfolding reach taken circuitOf built gateBytes outBytes
+unfolding reach taken greedyCircuit built gateBytes outBytes
 k1 = refl
 
-pub k2 : built 3 (3 ∷ 7 ∷ 6 ∷ []) 3 ≡ record { inputs = 3; gates = xorGate (gate 0 1) ∷ xorGate (gate 2 3) ∷ xorGate (gate 0 4) ∷ []; outs = 3 ∷ 4 ∷ 5 ∷ [] }
-unfolding reach taken circuitOf built
+pub k2 : built 3 (3 ∷ 7 ∷ 6 ∷ []) 3 ≡ record { inputs = 3; gates = xorGate (xor 0 1) ∷ xorGate (xor 2 3) ∷ xorGate (xor 0 4) ∷ []; outs = 3 ∷ 4 ∷ 5 ∷ [] }
+unfolding reach taken greedyCircuit built
 k2 = refl
 
 pub k3 : refusal 3 (3 ∷ 7 ∷ 6 ∷ []) 1 ≡ Refused TooShallow
 unfolding refusal shaped
 k3 = refl
 
-pub k4 : built 4 (7 ∷ 11 ∷ []) 2 ≡ record { inputs = 4; gates = xorGate (gate 0 1) ∷ xorGate (gate 2 4) ∷ xorGate (gate 3 4) ∷ []; outs = 5 ∷ 6 ∷ [] }
-unfolding reach taken circuitOf built
+pub k4 : built 4 (7 ∷ 11 ∷ []) 2 ≡ record { inputs = 4; gates = xorGate (xor 0 1) ∷ xorGate (xor 2 4) ∷ xorGate (xor 3 4) ∷ []; outs = 5 ∷ 6 ∷ [] }
+unfolding reach taken greedyCircuit built
 k4 = refl
 
 pub k5 : stored (built 1 (1 ∷ []) 0) ≡ 0x53 ∷ 0x48 ∷ 1 ∷ 1 ∷ 0 ∷ 0x4F ∷ 0x50 ∷ 0 ∷ []
-unfolding reach taken circuitOf built gateBytes outBytes
+unfolding reach taken greedyCircuit built gateBytes outBytes
 k5 = refl
 
 -- none of these is refused

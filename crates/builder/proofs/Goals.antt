@@ -8,11 +8,11 @@ use lib.ListN.{length, getD, take, drop, set, length-append, drop-of-length-le}
 use lib.Seq.{length-take-le, take-length}
 use Rattle.circuit.specs.Lines.{greatest, padded}
 use Rattle.circuit.proofs.Padding.{padded-none, padded-put}
-use Rattle.distance.specs.Base.{Line, Gate, made, Small}
+use Rattle.distance.specs.Base.{Line, Xor, made, Small}
 use Rattle.distance.specs.Table.{costAt}
 use Rattle.distance.proofs.Entries.{cost-is}
 use Rattle.builder.specs.Rule.{row, away, distances, sum, squares, distancesAfter}
-use Rattle.builder.specs.Kept.{Sound, Sounds, rowsOf, Held, nextGap, nextGaps, misses, missed, added, goalsAfter, goalsWith, toGo, placeOf, roomOf, lowOf, Aimed, Goals}
+use Rattle.builder.specs.Kept.{SoundRow, SoundRows, rowsOf, Held, nextGap, nextGaps, misses, missed, added, goalsAfter, goalsWith, toGo, placeOf, roomOf, lowOf, Aimed, Goals}
 use Rattle.builder.proofs.Lookup.{look-made, look-up, misses-le}
 use Rattle.builder.proofs.Lists.{drop-at-next, take-next}
 
@@ -231,7 +231,7 @@ pub record Alike (xs ys : List ℕ) : Type 0 where
   pub sums : sum xs ≡ sum ys
   pub squares-too : squares xs ≡ squares ys
 
-module _ (h : List ℕ) (ls : List Line) (sizes : ℕ) (q : Gate) (held : Held h ls sizes) (small : Small 8 ls) (one : q .a < length ls) (two : q .b < length ls)
+module _ (h : List ℕ) (ls : List Line) (sizes : ℕ) (q : Xor) (held : Held h ls sizes) (small : Small 8 ls) (one : q .a < length ls) (two : q .b < length ls)
     (mask : made ls q .mask < 256) where
   abbrev new : List Line
   new = ls ++ (made ls q ∷ [])
@@ -244,7 +244,7 @@ module _ (h : List ℕ) (ls : List Line) (sizes : ℕ) (q : Gate) (held : Held h
       goalsWith ls h (toGo placeOf (now-gaps ts limits) ts) (toGo roomOf (now-gaps ts limits) limits) (toGo lowOf (now-gaps ts limits) ts) q
 
   -- one row
-  module _ (t d : ℕ) (ok : Sound (row t d)) (byte : t < 256) where
+  module _ (t d : ℕ) (ok : SoundRow (row t d)) (byte : t < 256) where
     pub one-made : away ls (row t d) ≡ 0 → away new (row t d) ≡ 0
     one-made z = look-made h ls sizes (row t d) q (2 ^ (made ls q .depth)) held small ok byte one two refl mask z
 
@@ -253,7 +253,7 @@ module _ (h : List ℕ) (ls : List Line) (sizes : ℕ) (q : Gate) (held : Held h
         look-up h ls sizes (row t d) q (2 ^ (made ls q .depth)) held small ok byte one two refl mask k z p
         ∙ ap (λ (x : ℕ). k + misses h (placeOf k t) x (made ls q .mask) (2 ^ (made ls q .depth))) (sym (cost-is d (costAt d) (ok .shallow) refl))
 
-  pub alike : (ts limits : List ℕ) → length ts ≡ length limits → ((i : ℕ) → i < length ts → Sound (row (getD ts i 0) (getD limits i 0))) → ((i : ℕ) → getD ts i 0 < 256)
+  pub alike : (ts limits : List ℕ) → length ts ≡ length limits → ((i : ℕ) → i < length ts → SoundRow (row (getD ts i 0) (getD limits i 0))) → ((i : ℕ) → getD ts i 0 < 256)
       → greatest (now-gaps ts limits) ≤ sizes → Alike (distancesAfter ls (rowsOf ts limits) q) (then-gaps ts limits)
   alike [] [] e ok byte top = record { sums = refl; squares-too = refl }
   alike [] (d ∷ limits) e ok byte top = absurd (omega arith)
@@ -319,9 +319,9 @@ module _ (h : List ℕ) (m c : ℕ) where
   next-falls (g ∷ gs) (t ∷ ts) (d ∷ ds) = omega (arith, next-le g t d, next-falls gs ts ds)
 
 -- they are the distances from the base with the gate's line
-module _ (h : List ℕ) (ls : List Line) (sizes : ℕ) (q : Gate) (held : Held h ls sizes) (small : Small 8 ls) (one : q .a < length ls) (two : q .b < length ls)
+module _ (h : List ℕ) (ls : List Line) (sizes : ℕ) (q : Xor) (held : Held h ls sizes) (small : Small 8 ls) (one : q .a < length ls) (two : q .b < length ls)
     (mask : made ls q .mask < 256) where
-  pub next-distances : (ts limits : List ℕ) → length ts ≡ length limits → Sounds (rowsOf ts limits) → ((i : ℕ) → getD ts i 0 < 256)
+  pub next-distances : (ts limits : List ℕ) → length ts ≡ length limits → SoundRows (rowsOf ts limits) → ((i : ℕ) → getD ts i 0 < 256)
       → greatest (distances ls (rowsOf ts limits)) ≤ sizes
       → nextGaps h (made ls q .mask) (2 ^ (made ls q .depth)) (distances ls (rowsOf ts limits)) ts limits ≡ distancesAfter ls (rowsOf ts limits) q
   next-distances [] [] e ok byte top = refl

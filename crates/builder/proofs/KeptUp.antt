@@ -5,7 +5,7 @@ use Prim.Native.Nat.{ℕ, min, _≤_, _<_}
 use native.Mathlib.Omega.{arith}
 use lib.Pow.{pow-mono}
 use Rattle.distance.specs.Base.{Line, line}
-use Rattle.distance.specs.Table.{costAt, endOf, Stepped, Filled}
+use Rattle.distance.specs.Table.{costAt, endOf, TakenIn, Filled}
 use Rattle.distance.proofs.Entries.{cost-is, filled-le, stepped-le, stepped-end}
 use Rattle.builder.specs.Kept.{Held}
 
@@ -15,7 +15,7 @@ held-filled h ls sizes p f =
     record { holds = record { at = λ k t q r. f .holds .at k t (omega arith) r }; cap = λ j. filled-le h ls sizes j f }
 
 -- a line more at the end of the base, for as many sizes as before or fewer
-pub held-more : (h g : List ℕ) (m d c old new : ℕ) (ls : List Line) → c ≡ costAt d → m < 256 → new ≤ old → new ≤ 9 → Held h ls old → Stepped h g m c (endOf new)
+pub held-more : (h g : List ℕ) (m d c old new : ℕ) (ls : List Line) → c ≡ costAt d → m < 256 → new ≤ old → new ≤ 9 → Held h ls old → TakenIn h g m c (endOf new)
     → Held g (ls ++ (line m d ∷ [])) new
 held-more h g m d c old new ls e hm fewer nine o s =
     let more = stepped-end h g m d c old (min new 9) ls e hm (omega arith) (o .holds) s in

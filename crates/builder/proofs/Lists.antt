@@ -8,7 +8,7 @@ use lib.Bits.{bitXor}
 use lib.ListN.{length, getD, take, drop}
 use lib.Seq.{take-suc, drop-cons}
 use Rattle.circuit.specs.Lines.{greatest}
-use Rattle.distance.specs.Base.{Line, line, lines, none, gate, made, Small}
+use Rattle.distance.specs.Base.{Line, line, baseOf, none, xor, made, Small}
 use Rattle.builder.specs.Rule.{Row, row}
 use Rattle.builder.specs.Kept.{rowsOf}
 
@@ -27,12 +27,12 @@ pub take-next : {A : Type 0} (l : List A) (i : ℕ) (d : A) → i < length l →
 take-next l i d h = ap (λ (x : ℕ). take x l) (add-one i) ∙ take-suc l i d h
 
 -- ---- the lines of a list of masks and a list of depths
-pub lines-length : (ms ds : List ℕ) → length ms ≡ length ds → length (lines ms ds) ≡ length ms
+pub lines-length : (ms ds : List ℕ) → length ms ≡ length ds → length (baseOf ms ds) ≡ length ms
 lines-length [] ds e = refl
 lines-length (m ∷ ms) [] e = absurd (omega arith)
 lines-length (m ∷ ms) (d ∷ ds) e = ap suc (lines-length ms ds (omega arith))
 
-pub lines-get : (ms ds : List ℕ) (i : ℕ) → length ms ≡ length ds → getD (lines ms ds) i none ≡ line (getD ms i 0) (getD ds i 0)
+pub lines-get : (ms ds : List ℕ) (i : ℕ) → length ms ≡ length ds → getD (baseOf ms ds) i none ≡ line (getD ms i 0) (getD ds i 0)
 lines-get [] [] i e = refl
 lines-get [] (d ∷ ds) i e = absurd (omega arith)
 lines-get (m ∷ ms) [] i e = absurd (omega arith)
@@ -40,18 +40,18 @@ lines-get (m ∷ ms) (d ∷ ds) zero e = refl
 lines-get (m ∷ ms) (d ∷ ds) (suc i) e = lines-get ms ds i (omega arith)
 
 pub made-at : (ms ds : List ℕ) (i j : ℕ) → length ms ≡ length ds
-    → made (lines ms ds) (gate i j) ≡ line (bitXor (getD ms i 0) (getD ms j 0)) (suc (max (getD ds i 0) (getD ds j 0)))
+    → made (baseOf ms ds) (xor i j) ≡ line (bitXor (getD ms i 0) (getD ms j 0)) (suc (max (getD ds i 0) (getD ds j 0)))
 made-at ms ds i j e =
     ap₂ (λ (x y : Line). line (bitXor (x .mask) (y .mask)) (suc (max (x .depth) (y .depth)))) (lines-get ms ds i e) (lines-get ms ds j e)
 
-pub lines-snoc : (xs ys : List ℕ) (m d : ℕ) → length xs ≡ length ys → lines (xs ++ (m ∷ [])) (ys ++ (d ∷ [])) ≡ lines xs ys ++ (line m d ∷ [])
+pub lines-snoc : (xs ys : List ℕ) (m d : ℕ) → length xs ≡ length ys → baseOf (xs ++ (m ∷ [])) (ys ++ (d ∷ [])) ≡ baseOf xs ys ++ (line m d ∷ [])
 lines-snoc [] [] m d e = refl
 lines-snoc [] (y ∷ ys) m d e = absurd (omega arith)
 lines-snoc (x ∷ xs) [] m d e = absurd (omega arith)
 lines-snoc (x ∷ xs) (y ∷ ys) m d e = ap (λ (l : List Line). line x y ∷ l) (lines-snoc xs ys m d (omega arith))
 
 -- bytes are below 2 ^ 8
-pub lines-small : (ms ds : List ℕ) → ((i : ℕ) → getD ms i 0 < 256) → Small 8 (lines ms ds)
+pub lines-small : (ms ds : List ℕ) → ((i : ℕ) → getD ms i 0 < 256) → Small 8 (baseOf ms ds)
 lines-small [] ds f = tt
 lines-small (m ∷ ms) [] f = tt
 lines-small (m ∷ ms) (d ∷ ds) f = (f 0, lines-small ms ds (λ i. f (suc i)))

@@ -10,13 +10,13 @@ use borrow.Author.Tests.{le-leb, lt-leb, leb-true, leb-false}
 use lib.Bits.{bitXor, xor-lt, xor-block, xor-comm, xor-zero-r}
 use lib.Dec.{leb}
 use lib.ListN.{length, getD}
-use Rattle.distance.specs.Base.{Line, Gate, made, Small}
+use Rattle.distance.specs.Base.{Line, Xor, made, Small}
 use Rattle.distance.specs.Distance.{Gap, gates, never, can}
-use Rattle.distance.specs.Table.{least}
+use Rattle.distance.specs.Table.{leastSum}
 use Rattle.distance.proofs.Tests.{clash}
 use Rattle.distance.proofs.Least.{can-least, least-snoc}
 use Rattle.builder.specs.Rule.{Row, reach, count, away}
-use Rattle.builder.specs.Kept.{Sound, Held, misses}
+use Rattle.builder.specs.Kept.{SoundRow, Held, misses}
 use Rattle.builder.proofs.Reach.{small-made, under-far, reach-fewest, reach-none, reach-can, reach-set, reach-more, put-first}
 
 -- the two ways of the look-up
@@ -43,7 +43,7 @@ place-xor k t m p q =
     ap (bitXor (k * 256 + t)) (sym (zero-add m)) ∙ xor-block 8 k 0 t m p q ∙ ap₂ (λ (x y : ℕ). x * 256 + y) (xor-zero-r k) (xor-comm t m)
 
 -- the line made by gate q, of cost c
-module _ (h : List ℕ) (ls : List Line) (sizes : ℕ) (r : Row) (q : Gate) (c : ℕ) (held : Held h ls sizes) (small : Small 8 ls) (ok : Sound r) (byte : r .mask < 256)
+module _ (h : List ℕ) (ls : List Line) (sizes : ℕ) (r : Row) (q : Xor) (c : ℕ) (held : Held h ls sizes) (small : Small 8 ls) (ok : SoundRow r) (byte : r .mask < 256)
     (one : q .a < length ls) (two : q .b < length ls) (dear : c ≡ 2 ^ (made ls q .depth)) (mask : made ls q .mask < 256) where
   abbrev new : List Line
   new = ls ++ (made ls q ∷ [])
@@ -65,20 +65,20 @@ module _ (h : List ℕ) (ls : List Line) (sizes : ℕ) (r : Row) (q : Gate) (c :
       let b = 2 ^ (r .limit) in
       let m = made ls q .mask in
       let v = held .holds .at k (bitXor m t) p (xor-lt 8 m t mask byte) in
-      let o = leb-false (least (suc k) t ls) b (sym (can-least (suc k) t b ls (under-far r ok)) ∙ f) in
+      let o = leb-false (leastSum (suc k) t ls) b (sym (can-least (suc k) t b ls (under-far r ok)) ∙ f) in
       let s = least-snoc k t ls (made ls q) in
       can-least (suc k) t b new (under-far r ok) ∙ go (decLe (c + getD h (k * 256 + bitXor m t) 0) b) v o s
     where
       go : Dec (c + getD h (k * 256 + bitXor (made ls q .mask) (r .mask)) 0 ≤ 2 ^ (r .limit))
-          → getD h (k * 256 + bitXor (made ls q .mask) (r .mask)) 0 ≡ least k (bitXor (made ls q .mask) (r .mask)) ls
-          → 2 ^ (r .limit) < least (suc k) (r .mask) ls
-          → least (suc k) (r .mask) new ≡ min (least (suc k) (r .mask) ls) (2 ^ (made ls q .depth) + least k (bitXor (made ls q .mask) (r .mask)) ls)
-          → leb (least (suc k) (r .mask) new) (2 ^ (r .limit)) ≡ leb (c + getD h (k * 256 + bitXor (made ls q .mask) (r .mask)) 0) (2 ^ (r .limit))
+          → getD h (k * 256 + bitXor (made ls q .mask) (r .mask)) 0 ≡ leastSum k (bitXor (made ls q .mask) (r .mask)) ls
+          → 2 ^ (r .limit) < leastSum (suc k) (r .mask) ls
+          → leastSum (suc k) (r .mask) new ≡ min (leastSum (suc k) (r .mask) ls) (2 ^ (made ls q .depth) + leastSum k (bitXor (made ls q .mask) (r .mask)) ls)
+          → leb (leastSum (suc k) (r .mask) new) (2 ^ (r .limit)) ≡ leb (c + getD h (k * 256 + bitXor (made ls q .mask) (r .mask)) 0) (2 ^ (r .limit))
       go (yes w) v o s =
-          le-leb (least (suc k) (r .mask) new) (2 ^ (r .limit)) (omega (arith, v, o, s, dear, w))
+          le-leb (leastSum (suc k) (r .mask) new) (2 ^ (r .limit)) (omega (arith, v, o, s, dear, w))
           ∙ sym (le-leb (c + getD h (k * 256 + bitXor (made ls q .mask) (r .mask)) 0) (2 ^ (r .limit)) w)
       go (no w) v o s =
-          lt-leb (least (suc k) (r .mask) new) (2 ^ (r .limit)) (omega (arith, v, o, s, dear, w))
+          lt-leb (leastSum (suc k) (r .mask) new) (2 ^ (r .limit)) (omega (arith, v, o, s, dear, w))
           ∙ sym (lt-leb (c + getD h (k * 256 + bitXor (made ls q .mask) (r .mask)) 0) (2 ^ (r .limit)) (omega arith))
 
   -- and so is the look-up

@@ -21,25 +21,25 @@ use Rattle.circuit.specs.Writing.{writeAnswer, roomAfter, Wrote, intoRoom}
 use Rattle.circuit.proofs.Back.{listed-held}
 use Rattle.distance.specs.Base.{inputs}
 use Rattle.builder.specs.declared.Planned.{Planned}
-use Rattle.builder.specs.Rule.{row, taken, xorGate, circuitOf}
+use Rattle.builder.specs.Rule.{row, taken, xorGate, greedyCircuit}
 use Rattle.builder.specs.Call.{within, built, refusal, planned, planOf, buildAnswer, Builds, BuildsNumbered}
 use Rattle.builder.proofs.Refusals.{ranged, accepted}
 use Rattle.builder.proofs.Begin.{taken-few}
 
 -- ---- the circuit built has room in a stored form
 pub built-outs : (n : ℕ) (ts : List ℕ) (D : ℕ) → length (built n ts D .outs) ≡ length ts
-unfolding built circuitOf
+unfolding built greedyCircuit
 built-outs n ts D = length-map (within D ts) _ ∙ length-map ts (λ (t : ℕ). row t D)
 
 pub built-gates : (n : ℕ) (ts : List ℕ) (D : ℕ) → length (built n ts D .gates) ≡ length (taken (inputs n) (within D ts))
-unfolding built circuitOf
+unfolding built greedyCircuit
 built-gates n ts D = length-map (taken (inputs n) (within D ts)) xorGate
 
 pub built-few : (n : ℕ) (ts : List ℕ) (D : ℕ) → length (built n ts D .gates) ≤ 224
 built-few n ts D = omega (arith, built-gates n ts D, taken-few (inputs n) (within D ts))
 
 pub built-inputs : (n : ℕ) (ts : List ℕ) (D : ℕ) → built n ts D .inputs ≡ n
-unfolding built circuitOf
+unfolding built greedyCircuit
 built-inputs n ts D = refl
 
 pub built-shaped : (n : ℕ) (ts : List ℕ) (D : ℕ) → shaped n (length ts) 0 ≡ true → shaped (built n ts D .inputs) (length (built n ts D .outs)) (length (built n ts D .gates)) ≡ true

@@ -10,15 +10,15 @@ use lib.ListN.{length, getD, length-append, List·getD-append}
 use lib.Seq.{getD-append-seam}
 use lib.Pow.{pow-mono, pow-pos}
 use lib.Bits.{xor-lt}
-use Rattle.distance.specs.Base.{Line, none, Gate, made, Small, Makes, Program, Fewest, SetOf}
+use Rattle.distance.specs.Base.{Line, none, Xor, made, Small, Makes, Program, Fewest, SetOf}
 use Rattle.distance.specs.Distance.{Gap, gates, never, distance, can}
-use Rattle.distance.specs.Table.{far, least}
+use Rattle.distance.specs.Table.{far, leastSum}
 use Rattle.distance.proofs.Upper.{Pair, progress}
 use Rattle.distance.proofs.Fewest.{found, first-gates, Barren, distance-fewest, distance-never, distance-smallest, distance-no-set, at-most-n}
 use Rattle.distance.proofs.Least.{can-least}
 use Rattle.distance.proofs.Weight.{grows}
 use Rattle.builder.specs.Rule.{Row, reach, count, away}
-use Rattle.builder.specs.Kept.{Sound}
+use Rattle.builder.specs.Kept.{SoundRow}
 
 -- a distance that is at most k
 pub record UpTo (x : Gap) (k : ℕ) : Type 0 where
@@ -37,14 +37,14 @@ module _ (n : ℕ) where
   small-snoc [] l s h = (h, tt)
   small-snoc (x ∷ ls) l s h = (s .0, small-snoc ls l (s .1) h)
 
-  pub small-made : (ls : List Line) (g : Gate) → Small n ls → Small n (ls ++ (made ls g ∷ []))
+  pub small-made : (ls : List Line) (g : Xor) → Small n ls → Small n (ls ++ (made ls g ∷ []))
   small-made ls g s = small-snoc ls (made ls g) s (xor-lt n (getD ls (g .a) none .mask) (getD ls (g .b) none .mask) (small-get ls (g .a) s) (small-get ls (g .b) s))
 
 -- ---- programs and the distance
-pub under-far : (r : Row) → Sound r → 2 ^ (r .limit) < far
+pub under-far : (r : Row) → SoundRow r → 2 ^ (r .limit) < far
 under-far r ok = let i : r .limit ≤ 15 = omega (arith, ok .shallow) in omega (arith, pow-mono i)
 
-module _ (ls : List Line) (r : Row) (small : Small 8 ls) (ok : Sound r) where
+module _ (ls : List Line) (r : Row) (small : Small 8 ls) (ok : SoundRow r) where
   pub reach-fewest : (g : ℕ) → reach ls r ≡ gates g → Fewest ls (r .mask) (r .limit) g
   unfolding reach
   reach-fewest g e = distance-fewest 8 ls (r .mask) (r .limit) g small (ok .some) e
@@ -94,19 +94,19 @@ module _ (ls : List Line) (r : Row) (small : Small 8 ls) (ok : Sound r) where
       go never e = omega (arith, ap count e)
 
 -- ---- a line more: no row gets farther away
-module _ (ls : List Line) (l : Line) (r : Row) (small : Small 8 ls) (smaller : Small 8 (ls ++ (l ∷ []))) (ok : Sound r) where
+module _ (ls : List Line) (l : Line) (r : Row) (small : Small 8 ls) (smaller : Small 8 (ls ++ (l ∷ []))) (ok : SoundRow r) where
   can-more : (k : ℕ) → can k (r .mask) (2 ^ (r .limit)) ls ≡ true → can k (r .mask) (2 ^ (r .limit)) (ls ++ (l ∷ [])) ≡ true
   can-more k e =
       let t = r .mask in
       let b = 2 ^ (r .limit) in
-      let p = leb-true (least k t ls) b (sym (can-least k t b ls (under-far r ok)) ∙ e) in
-      can-least k t b (ls ++ (l ∷ [])) (under-far r ok) ∙ le-leb (least k t (ls ++ (l ∷ []))) b (omega (arith, grows k t ls l))
+      let p = leb-true (leastSum k t ls) b (sym (can-least k t b ls (under-far r ok)) ∙ e) in
+      can-least k t b (ls ++ (l ∷ [])) (under-far r ok) ∙ le-leb (leastSum k t (ls ++ (l ∷ []))) b (omega (arith, grows k t ls l))
 
   pub reach-more : (g : ℕ) → reach ls r ≡ gates g → UpTo (reach (ls ++ (l ∷ [])) r) g
   reach-more g e = reach-set (ls ++ (l ∷ [])) r smaller ok g (can-more (suc g) (reach-can ls r small ok g e .0))
 
 -- ---- a line made by a gate: a program that starts from it is a program of one gate more
-module _ (ls : List Line) (q : Gate) (one : q .a < length ls) (two : q .b < length ls) where
+module _ (ls : List Line) (q : Xor) (one : q .a < length ls) (two : q .b < length ls) where
   pub put-first : (k t D : ℕ) → Program (ls ++ (made ls q ∷ [])) k t D → Program ls (suc k) t D
   put-first k t D p =
       record {
@@ -136,7 +136,7 @@ now-made ls l t D p q =
 pub last-makes : (ls : List Line) (l : Line) (t D : ℕ) → ((h : ℕ) → Program ls h t D → 1 ≤ h) → Program (ls ++ (l ∷ [])) 0 t D → (l .mask ≡ t) × (l .depth ≤ D)
 last-makes ls l t D f p = ends (p .gates) (p .count) (p .makes)
   where
-    ends : (gs : List Gate) → length gs ≡ 0 → Makes (ls ++ (l ∷ [])) gs t D → (l .mask ≡ t) × (l .depth ≤ D)
+    ends : (gs : List Xor) → length gs ≡ 0 → Makes (ls ++ (l ∷ [])) gs t D → (l .mask ≡ t) × (l .depth ≤ D)
     ends (g ∷ gs) z m = absurd (omega arith)
     ends [] z m =
         elim (decLt (m .at) (length ls)) [

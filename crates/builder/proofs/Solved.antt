@@ -9,18 +9,17 @@ use lib.Dec.{leb, eqb}
 use lib.ListN.{length, getD, length-append, length-map}
 use Rattle.circuit.specs.declared.Answer.the-variants.{Done, Refused}
 use Rattle.circuit.specs.declared.Refusal.the-variants.{TooShallow}
-use Rattle.circuit.specs.Lines as circuits
-use Rattle.circuit.specs.Lines.{gateAt, depthOf, outputOn, greatest, depthStep, truthStep, anyOf}
+use Rattle.circuit.specs.Lines.{gateAt, depthOf, outputOn, greatest, depthStep, truthStep, anyOf, lines, values}
 use Rattle.circuit.specs.Reading.{shaped, gateAnswer, secondFits, outAnswer, gatesAnswer, outsAnswer, listingAnswer}
-use Rattle.distance.specs.Base.{Line, line, none, Gate, made, run, Reads, Makes, Small, inputs, weight}
+use Rattle.distance.specs.Base.{Line, line, none, Xor, made, run, Reads, Makes, Small, inputs, weight}
 use Rattle.distance.specs.Distance.{gates}
 use Rattle.distance.proofs.Tests.{both-cases}
 use Rattle.distance.proofs.Weight.{small-inputs}
 use Rattle.distance.proofs.Weight as weights
-use Rattle.builder.specs.Rule.{Row, row, reach, count, away, distances, sum, deepest, makes, taken, lowest, lowestFrom, xorGate, circuitOf}
+use Rattle.builder.specs.Rule.{Row, row, reach, count, away, distances, sum, deepest, makes, taken, lowest, lowestFrom, xorGate, greedyCircuit}
 use Rattle.builder.specs.Call.{within, built, badRow, tooHeavy, refusal}
 use Rattle.builder.specs.Matrix.{rowOn, Computes}
-use Rattle.builder.specs.Kept.{Sound, Sounds, Alive, Fit}
+use Rattle.builder.specs.Kept.{SoundRow, SoundRows, Alive, Fit}
 use Rattle.builder.proofs.Reach.{reach-fewest}
 use Rattle.builder.proofs.Ends.{Within, within-snoc, Reached, enough}
 use Rattle.builder.proofs.Lists.{map-at}
@@ -36,10 +35,10 @@ pub record MadeAt (ls : List Line) (r : Row) (at : ℕ) : Type 0 where
   pub depth : getD ls at none .depth ≤ r .limit
 
 -- a row of distance 0 is made by a line
-pub made-row : (ls : List Line) (r : Row) → Small 8 ls → Sound r → reach ls r ≡ gates 0 → (at : ℕ) × MadeAt ls r at
+pub made-row : (ls : List Line) (r : Row) → Small 8 ls → SoundRow r → reach ls r ≡ gates 0 → (at : ℕ) × MadeAt ls r at
 made-row ls r small ok e = let p = reach-fewest ls r small ok 0 e .program in go (p .gates) (p .count) (p .makes)
   where
-    go : (gs : List Gate) → length gs ≡ 0 → Makes ls gs (r .mask) (r .limit) → (at : ℕ) × MadeAt ls r at
+    go : (gs : List Xor) → length gs ≡ 0 → Makes ls gs (r .mask) (r .limit) → (at : ℕ) × MadeAt ls r at
     go (g ∷ gs) z m = absurd (omega arith)
     go [] z m = (m .at, record { within = m .within; mask = m .mask; depth = m .depth })
 
@@ -104,7 +103,7 @@ alive-at ls [] a i h = absurd (omega arith)
 alive-at ls (r ∷ rs) a zero h = a .0
 alive-at ls (r ∷ rs) a (suc i) h = alive-at ls rs (a .1) i (omega arith)
 
-sound-at : (rs : List Row) → Sounds rs → (i : ℕ) → i < length rs → Sound (getD rs i (row 0 0))
+sound-at : (rs : List Row) → SoundRows rs → (i : ℕ) → i < length rs → SoundRow (getD rs i (row 0 0))
 sound-at [] s i h = absurd (omega arith)
 sound-at (r ∷ rs) s zero h = s .0
 sound-at (r ∷ rs) s (suc i) h = sound-at rs (s .1) i (omega arith)
@@ -131,7 +130,7 @@ module _ (n : ℕ) (ts : List ℕ) (D : ℕ) (a : Accepted n ts D) where
   abbrev rs : List Row
   rs = within D ts
 
-  abbrev gs : List Gate
+  abbrev gs : List Xor
   gs = taken (inputs n) rs
 
   abbrev all : List Line
@@ -158,9 +157,9 @@ module _ (n : ℕ) (ts : List ℕ) (D : ℕ) (a : Accepted n ts D) where
 
   -- the circuit is not too deep
   pub shallow : depthOf (built n ts D) ≤ D
-  unfolding built circuitOf
+  unfolding built greedyCircuit
   shallow =
-      let e = ap (λ (l : List ℕ). circuits.lines depthStep 0 l (gateAt (circuitOf n (inputs n) rs)) (length (map xorGate gs))) (input-depths n)
+      let e = ap (λ (l : List ℕ). lines depthStep 0 l (gateAt (greedyCircuit n (inputs n) rs)) (length (map xorGate gs))) (input-depths n)
       ∙ lines-whole (λ (l : Line). l .depth) depthStep 0 refl depth-step (inputs n) gs in
       omega (arith, ap greatest e, greatest-within D all (reached .deep D (deepest-within D ts) (inputs-shallow D n)))
 
@@ -178,12 +177,12 @@ module _ (n : ℕ) (ts : List ℕ) (D : ℕ) (a : Accepted n ts D) where
 
   -- and the circuit computes it
   pub computes-row : (x i : ℕ) → i < length ts → outputOn (built n ts D) x i ≡ rowOn n (getD ts i 0) x
-  unfolding built circuitOf
+  unfolding built greedyCircuit
   computes-row x i h =
       let of : Line → ℕ = λ l. rowOn n (l .mask) x in
       let r = row (getD ts i 0) D in
-      let e : circuits.values x n (gateAt (circuitOf n (inputs n) rs)) (length (map xorGate gs)) ≡ map of all =
-      ap (λ (l : List ℕ). circuits.lines truthStep 0 l (gateAt (circuitOf n (inputs n) rs)) (length (map xorGate gs))) (input-values n n x (omega arith))
+      let e : values x n (gateAt (greedyCircuit n (inputs n) rs)) (length (map xorGate gs)) ≡ map of all =
+      ap (λ (l : List ℕ). lines truthStep 0 l (gateAt (greedyCircuit n (inputs n) rs)) (length (map xorGate gs))) (input-values n n x (omega arith))
       ∙ lines-whole (λ (l : Line). rowOn n (l .mask) x) truthStep 0 (row-none n x) (value-step n x) (inputs n) gs in
       let o : getD (map (lowest all) rs) i 0 ≡ lowest all r =
       map-at (lowest all) rs (row 0 0) i (omega (arith, length-map ts (λ (t : ℕ). row t D))) ∙ ap (lowest all) (within-row D ts i h) in
@@ -201,7 +200,7 @@ module _ (n : ℕ) (ts : List ℕ) (D : ℕ) (a : Accepted n ts D) where
       }
 
   -- ---- it is a circuit, with XOR gates only
-  gates-fine : (ls : List Line) (hs : List Gate) → Reads ls hs → gatesAnswer true (length ls) (map xorGate hs) ≡ Done
+  gates-fine : (ls : List Line) (hs : List Xor) → Reads ls hs → gatesAnswer true (length ls) (map xorGate hs) ≡ Done
   unfolding gatesAnswer gateAnswer secondFits
   gates-fine ls [] w = refl
   gates-fine ls (g ∷ hs) w =
@@ -213,12 +212,12 @@ module _ (n : ℕ) (ts : List ℕ) (D : ℕ) (a : Accepted n ts D) where
   outs-fine k [] f = refl
   outs-fine k (o ∷ os) f = rw (lt-ltb o k (f 0 (omega arith))) (outs-fine k os (λ i h. f (suc i) (omega arith)))
 
-  run-length : (ls : List Line) (hs : List Gate) → length (run ls hs) ≡ length ls + length hs
+  run-length : (ls : List Line) (hs : List Xor) → length (run ls hs) ≡ length ls + length hs
   run-length ls [] = omega arith
   run-length ls (g ∷ hs) = omega (arith, run-length (ls ++ (made ls g ∷ [])) hs, length-append ls (made ls g ∷ []))
 
   pub sound-circuit : listingAnswer true (built n ts D) ≡ Done
-  unfolding listingAnswer built circuitOf
+  unfolding listingAnswer built greedyCircuit
   sound-circuit =
       let l = inputs-length n in
       rw (
@@ -236,20 +235,20 @@ module _ (n : ℕ) (ts : List ℕ) (D : ℕ) (a : Accepted n ts D) where
 -- ---- too shallow
 module _ (n : ℕ) (ts : List ℕ) (D : ℕ) (shape : shaped n (length ts) 0 ≡ true) (rows : anyOf (map (badRow n) ts) ≡ false) (depth : D ≤ 15) where
   -- a program computes each row, and no program computes a row that is too heavy
-  no-program : anyOf (map (tooHeavy n D) ts) ≡ true → (gs : List Gate) → Computes n ts D gs → ⊥
+  no-program : anyOf (map (tooHeavy n D) ts) ≡ true → (gs : List Xor) → Computes n ts D gs → ⊥
   no-program e gs c =
       let s = any-some (tooHeavy n D) ts e in
       let t = getD ts (s .at) 0 in
       weights.too-shallow n t D (length gs) (ltb-true (2 ^ D) (weight n t) (s .holds)) (record { gates = gs; count = refl; makes = c .makes (s .at) (s .within) })
 
-  pub shallow-none : refusal n ts D ≡ Refused TooShallow → (gs : List Gate) → Computes n ts D gs → ⊥
+  pub shallow-none : refusal n ts D ≡ Refused TooShallow → (gs : List Xor) → Computes n ts D gs → ⊥
   shallow-none e = go (anyOf (map (tooHeavy n D) ts)) refl
     where
-      go : (x : Bool) → anyOf (map (tooHeavy n D) ts) ≡ x → (gs : List Gate) → Computes n ts D gs → ⊥
+      go : (x : Bool) → anyOf (map (tooHeavy n D) ts) ≡ x → (gs : List Xor) → Computes n ts D gs → ⊥
       go true h = no-program h
       go false h = let q = refused-not n ts D shape rows depth h ∙ e in let z : _≡_ {A = ℕ} 0 1 = cc in absurd (omega arith)
 
-  pub none-shallow : ((gs : List Gate) → Computes n ts D gs → ⊥) → refusal n ts D ≡ Refused TooShallow
+  pub none-shallow : ((gs : List Xor) → Computes n ts D gs → ⊥) → refusal n ts D ≡ Refused TooShallow
   none-shallow p = go (anyOf (map (tooHeavy n D) ts)) refl
     where
       go : (x : Bool) → anyOf (map (tooHeavy n D) ts) ≡ x → refusal n ts D ≡ Refused TooShallow

@@ -14,14 +14,13 @@ use Rattle.circuit.specs.Lines.{greatest, padded}
 use Rattle.circuit.proofs.Back.{map-snoc}
 use Rattle.circuit.proofs.Depths.{deeper-is}
 use Rattle.circuit.proofs.Padding.{padded-length, padded-take, padded-put}
-use Rattle.distance.specs.Base.{Line, line, lines, none, Gate, gate, made, run, Small, Shallow}
-use Rattle.distance.specs.Table.{costAt, endOf}
-use Rattle.distance.specs.Table as table
+use Rattle.distance.specs.Base.{Line, line, baseOf, none, Xor, xor, made, run, Small, Shallow}
+use Rattle.distance.specs.Table.{costAt, endOf, TakenIn}
 use Rattle.distance.proofs.Entries.{cost-is}
 use Rattle.distance.proofs.Search.{lines-at, lines-end}
 use Rattle.builder.specs.declared.grow.State.{State}
 use Rattle.builder.specs.Rule.{Row, row, away, distances, sum, deepest, makes, lowest, lowestFrom, nextGate, greedy, taken}
-use Rattle.builder.specs.Kept.{Sounds, Alive, rowsOf, Held, nextGaps, Lowering, base, Choosing, Poised, Tabled, Next, Stepped, Stands, Grown}
+use Rattle.builder.specs.Kept.{SoundRows, Alive, rowsOf, Held, nextGaps, Lowering, base, Choosing, Poised, Tabled, Next, Stepped, SoFar, Grown}
 use Rattle.builder.proofs.Reach.{small-get, small-made, away-lt}
 use Rattle.builder.proofs.Ends.{Less, next-less, alive-more}
 use Rattle.builder.proofs.Goals.{next-distances, next-falls}
@@ -31,21 +30,21 @@ use Rattle.builder.proofs.Lists.{lines-length, lines-get, lines-snoc, r
 -- ---- the row's lowest line
 module _ (ms ds : List ℕ) (r : Row) (i : ℕ) (l : length ms ≡ length ds) where
   low-step : (x : Bool) → i < length ms → makes r (line (getD ms i 0) (getD ds i 0)) ≡ x
-      → lowestFrom r i (drop i (lines ms ds)) ≡ cond x i (lowestFrom r (i + 1) (drop (i + 1) (lines ms ds)))
+      → lowestFrom r i (drop i (baseOf ms ds)) ≡ cond x i (lowestFrom r (i + 1) (drop (i + 1) (baseOf ms ds)))
   low-step x h e =
       ap (lowestFrom r i) (lines-at ms ds i h (omega arith))
-      ∙ ap₂ (λ (y : Bool) (k : ℕ). cond y i (lowestFrom r k (drop k (lines ms ds)))) e (sym (add-one i))
+      ∙ ap₂ (λ (y : Bool) (k : ℕ). cond y i (lowestFrom r k (drop k (baseOf ms ds)))) e (sym (add-one i))
 
-  pub low-hit : i < length ms → getD ms i 0 ≡ r .mask → getD ds i 0 ≤ r .limit → lowestFrom r i (drop i (lines ms ds)) ≡ i
+  pub low-hit : i < length ms → getD ms i 0 ≡ r .mask → getD ds i 0 ≤ r .limit → lowestFrom r i (drop i (baseOf ms ds)) ≡ i
   low-hit h p q = low-step true h (rw (eq-eqb (getD ms i 0) (r .mask) p, le-leb (getD ds i 0) (r .limit) q))
 
-  pub low-other : i < length ms → (getD ms i 0 ≡ r .mask → ⊥) → lowestFrom r i (drop i (lines ms ds)) ≡ lowestFrom r (i + 1) (drop (i + 1) (lines ms ds))
+  pub low-other : i < length ms → (getD ms i 0 ≡ r .mask → ⊥) → lowestFrom r i (drop i (baseOf ms ds)) ≡ lowestFrom r (i + 1) (drop (i + 1) (baseOf ms ds))
   low-other h p = low-step false h (rw (ne-eqb (getD ms i 0) (r .mask) p))
 
-  pub low-deep : i < length ms → getD ms i 0 ≡ r .mask → r .limit < getD ds i 0 → lowestFrom r i (drop i (lines ms ds)) ≡ lowestFrom r (i + 1) (drop (i + 1) (lines ms ds))
+  pub low-deep : i < length ms → getD ms i 0 ≡ r .mask → r .limit < getD ds i 0 → lowestFrom r i (drop i (baseOf ms ds)) ≡ lowestFrom r (i + 1) (drop (i + 1) (baseOf ms ds))
   low-deep h p q = low-step false h (rw (eq-eqb (getD ms i 0) (r .mask) p, lt-leb (getD ds i 0) (r .limit) q))
 
-  pub low-end : length ms ≤ i → lowestFrom r i (drop i (lines ms ds)) ≡ 0
+  pub low-end : length ms ≤ i → lowestFrom r i (drop i (baseOf ms ds)) ≡ 0
   low-end h = ap (lowestFrom r i) (lines-end ms ds i (omega arith))
 
 -- it is a line, or 0
@@ -57,37 +56,37 @@ low-le r i (l ∷ ls) = go (makes r l) (low-le r (suc i) ls)
     go true p = omega arith
     go false p = omega arith
 
-pub lowest-byte : (ms ds : List ℕ) (r : Row) → length ms ≡ length ds → length ms ≤ 256 → lowest (lines ms ds) r < 256
-lowest-byte ms ds r l h = omega (arith, low-le r 0 (lines ms ds), lines-length ms ds l)
+pub lowest-byte : (ms ds : List ℕ) (r : Row) → length ms ≡ length ds → length ms ≤ 256 → lowest (baseOf ms ds) r < 256
+lowest-byte ms ds r l h = omega (arith, low-le r 0 (baseOf ms ds), lines-length ms ds l)
 
 pub outs-at : (ms ds ts limits : List ℕ) (i : ℕ) → length ts ≡ length limits → i < length ts
-    → lowest (lines ms ds) (row (getD ts i 0) (getD limits i 0)) ≡ getD (map (lowest (lines ms ds)) (rowsOf ts limits)) i 0
+    → lowest (baseOf ms ds) (row (getD ts i 0) (getD limits i 0)) ≡ getD (map (lowest (baseOf ms ds)) (rowsOf ts limits)) i 0
 outs-at ms ds ts limits i e p =
     sym
-    (map-at (lowest (lines ms ds)) (rowsOf ts limits) (row 0 0) i (omega (arith, rows-length ts limits e)) ∙ ap (lowest (lines ms ds)) (rows-at ts limits i e))
+    (map-at (lowest (baseOf ms ds)) (rowsOf ts limits) (row 0 0) i (omega (arith, rows-length ts limits e)) ∙ ap (lowest (baseOf ms ds)) (rows-at ts limits i e))
 
-pub outs-length : (ms ds ts limits : List ℕ) → length ts ≡ length limits → length (map (lowest (lines ms ds)) (rowsOf ts limits)) ≡ length ts
-outs-length ms ds ts limits e = length-map (rowsOf ts limits) (lowest (lines ms ds)) ∙ rows-length ts limits e
+pub outs-length : (ms ds ts limits : List ℕ) → length ts ≡ length limits → length (map (lowest (baseOf ms ds)) (rowsOf ts limits)) ≡ length ts
+outs-length ms ds ts limits e = length-map (rowsOf ts limits) (lowest (baseOf ms ds)) ∙ rows-length ts limits e
 
 -- ---- what sound rows are
-pub sounds-some : (ts limits : List ℕ) → length ts ≡ length limits → Sounds (rowsOf ts limits) → (i : ℕ) → i < length ts → getD ts i 0 ≡ 0 → ⊥
+pub sounds-some : (ts limits : List ℕ) → length ts ≡ length limits → SoundRows (rowsOf ts limits) → (i : ℕ) → i < length ts → getD ts i 0 ≡ 0 → ⊥
 sounds-some [] limits e s i p = absurd (omega arith)
 sounds-some (t ∷ ts) [] e s i p = absurd (omega arith)
 sounds-some (t ∷ ts) (d ∷ limits) e s zero p = s .0 .some
 sounds-some (t ∷ ts) (d ∷ limits) e s (suc i) p = sounds-some ts limits (omega arith) (s .1) i (omega arith)
 
-pub sounds-limited : (ts limits : List ℕ) → length ts ≡ length limits → Sounds (rowsOf ts limits) → Shallow limits
+pub sounds-limited : (ts limits : List ℕ) → length ts ≡ length limits → SoundRows (rowsOf ts limits) → Shallow limits
 sounds-limited [] [] e s i = omega arith
 sounds-limited [] (d ∷ limits) e s i = absurd (omega arith)
 sounds-limited (t ∷ ts) [] e s i = omega arith
 sounds-limited (t ∷ ts) (d ∷ limits) e s zero = s .0 .shallow
 sounds-limited (t ∷ ts) (d ∷ limits) e s (suc i) = sounds-limited ts limits (omega arith) (s .1) i
 
-pub sounds-deep : (rs : List Row) → Sounds rs → deepest rs < 16
+pub sounds-deep : (rs : List Row) → SoundRows rs → deepest rs < 16
 sounds-deep [] s = omega arith
 sounds-deep (r ∷ rs) s = omega (arith, s .0 .shallow, sounds-deep rs (s .1))
 
-distances-small : (ls : List Line) (rs : List Row) → Small 8 ls → Sounds rs → (i : ℕ) → getD (distances ls rs) i 0 < 8
+distances-small : (ls : List Line) (rs : List Row) → Small 8 ls → SoundRows rs → (i : ℕ) → getD (distances ls rs) i 0 < 8
 distances-small ls [] small s i = omega arith
 distances-small ls (r ∷ rs) small s zero = away-lt ls r small (s .0)
 distances-small ls (r ∷ rs) small s (suc i) = distances-small ls rs small (s .1) i
@@ -159,7 +158,7 @@ module _ (ts limits : List ℕ) (s : State) (p : Poised ts limits s) where
 
   -- ---- a gate more
   module _ (h : List ℕ) (t : Tabled ts limits s h) (i j : ℕ) (nx : Next (base s) rs i j) where
-    less : Less (base s) rs (gate i j)
+    less : Less (base s) rs (xor i j)
     less =
         subst (Less (base s) rs) (nx .is)
         (next-less (base s) rs (p .small) (p .sound) (p .alive) (p .near) (let e = eqb-false (sum (distances (base s) rs)) 0 (nx .left-to-do) in omega arith))
@@ -177,13 +176,13 @@ module _ (ts limits : List ℕ) (s : State) (p : Poised ts limits s) where
     abbrev m : ℕ
     m = bitXor (getD (s .masks) i 0) (getD (s .masks) j 0)
 
-    made-is : made (base s) (gate i j) ≡ line m (suc (max (getD (s .depths) i 0) (getD (s .depths) j 0)))
+    made-is : made (base s) (xor i j) ≡ line m (suc (max (getD (s .depths) i 0) (getD (s .depths) j 0)))
     made-is = ap₂ (λ (x y : Line). line (bitXor (x .mask) (y .mask)) (suc (max (x .depth) (y .depth)))) (at i first-in) (at j second-in)
 
-    pub mask-byte : made (base s) (gate i j) .mask < 256
+    pub mask-byte : made (base s) (xor i j) .mask < 256
     mask-byte = xor-lt 8 (getD (base s) i none .mask) (getD (base s) j none .mask) (small-get 8 (base s) i (p .small)) (small-get 8 (base s) j (p .small))
 
-    mask-is : made (base s) (gate i j) .mask ≡ m
+    mask-is : made (base s) (xor i j) .mask ≡ m
     mask-is = ap (λ (x : Line). x .mask) made-is
 
     module _ (w c : ℕ) (ed : w ≡ min 255 (suc (max (getD (s .depths) i 0) (getD (s .depths) j 0)))) (ec : c ≡ costAt w) where
@@ -191,13 +190,13 @@ module _ (ts limits : List ℕ) (s : State) (p : Poised ts limits s) where
       ew : w ≡ suc (max (getD (s .depths) i 0) (getD (s .depths) j 0))
       ew = deeper-is (getD (s .depths) i 0) (getD (s .depths) j 0) w (omega (arith, p .shallow i)) (omega (arith, p .shallow j)) ed
 
-      depth-is : made (base s) (gate i j) .depth ≡ w
+      depth-is : made (base s) (xor i j) .depth ≡ w
       depth-is = ap (λ (x : Line). x .depth) made-is ∙ sym ew
 
       pub depth-small : w < 16
       depth-small = omega (arith, less .deep, sounds-deep rs (p .sound), depth-is)
 
-      cost-pow : c ≡ 2 ^ (made (base s) (gate i j) .depth)
+      cost-pow : c ≡ 2 ^ (made (base s) (xor i j) .depth)
       cost-pow = cost-is w c depth-small ec ∙ ap (λ (x : ℕ). 2 ^ x) (sym depth-is)
 
       pub lowering : Lowering (take (length ts) (s .gaps)) ts limits h c
@@ -213,7 +212,7 @@ module _ (ts limits : List ℕ) (s : State) (p : Poised ts limits s) where
           })
 
       abbrev new : List Line
-      new = base s ++ (made (base s) (gate i j) ∷ [])
+      new = base s ++ (made (base s) (xor i j) ∷ [])
 
       -- the distances from the new base
       module _ (bytes : (k : ℕ) → getD ts k 0 < 256) (gaps′ : List ℕ) (eg : gaps′ ≡ padded 32 0 (nextGaps h m c (take (length ts) (s .gaps)) ts limits)) where
@@ -222,7 +221,7 @@ module _ (ts limits : List ℕ) (s : State) (p : Poised ts limits s) where
             eg
             ∙ ap (padded 32 0)
             ((λ u. nextGaps h (sym mask-is u) (cost-pow u) (gaps-taken u) ts limits)
-            ∙ next-distances h (base s) (greatest (distances (base s) rs)) (gate i j) t (p .small) (less .one) (less .two) mask-byte ts limits (p .paired) (p .sound) bytes (omega arith))
+            ∙ next-distances h (base s) (greatest (distances (base s) rs)) (xor i j) t (p .small) (less .one) (less .two) mask-byte ts limits (p .paired) (p .sound) bytes (omega arith))
 
         next-long : length ts ≡ length (distances new rs)
         next-long = sym (length-map rs (away new) ∙ rows-length ts limits (p .paired))
@@ -237,8 +236,8 @@ module _ (ts limits : List ℕ) (s : State) (p : Poised ts limits s) where
         top-falls : greatest (distances new rs) ≤ greatest (distances (base s) rs)
         top-falls =
             subst (λ (l : List ℕ). greatest l ≤ greatest (distances (base s) rs))
-            (next-distances h (base s) (greatest (distances (base s) rs)) (gate i j) t (p .small) (less .one) (less .two) mask-byte ts limits (p .paired) (p .sound) bytes (omega arith))
-            (next-falls h (made (base s) (gate i j) .mask) (2 ^ (made (base s) (gate i j) .depth)) (distances (base s) rs) ts limits)
+            (next-distances h (base s) (greatest (distances (base s) rs)) (xor i j) t (p .small) (less .one) (less .two) mask-byte ts limits (p .paired) (p .sound) bytes (omega arith))
+            (next-falls h (made (base s) (xor i j) .mask) (2 ^ (made (base s) (xor i j) .depth)) (distances (base s) rs) ts limits)
 
         module _ (top : ℕ) (et : top ≡ greatest (take (length ts) gaps′)) where
           top-is : top ≡ greatest (distances new rs)
@@ -259,12 +258,12 @@ module _ (ts limits : List ℕ) (s : State) (p : Poised ts limits s) where
           grown : base after ≡ new
           unfolding base
           grown =
-              ap₂ lines (ap (λ (u : ℕ). take u (set (s .masks) (s .len) m)) (add-one (s .len)) ∙ take-suc-set (s .masks) (s .len) m (omega (arith, p .within, p .wide)))
+              ap₂ baseOf (ap (λ (u : ℕ). take u (set (s .masks) (s .len) m)) (add-one (s .len)) ∙ take-suc-set (s .masks) (s .len) m (omega (arith, p .within, p .wide)))
               (ap (λ (u : ℕ). take u (set (s .depths) (s .len) w)) (add-one (s .len)) ∙ take-suc-set (s .depths) (s .len) w (omega (arith, p .within, p .deep)))
               ∙ lines-snoc ms ds m w even
-              ∙ ap (λ (l : Line). lines ms ds ++ (l ∷ [])) (ap (line m) ew ∙ sym made-is)
+              ∙ ap (λ (l : Line). baseOf ms ds ++ (l ∷ [])) (ap (line m) ew ∙ sym made-is)
 
-          pub stepped : (g : List ℕ) → table.Stepped h g m c (endOf top) → Stepped ts limits s after g i j
+          pub stepped : (g : List ℕ) → TakenIn h g m c (endOf top) → Stepped ts limits s after g i j
           stepped g f =
               record {
                 lines-are = grown;
@@ -295,8 +294,8 @@ module _ (ts limits : List ℕ) (s : State) (p : Poised ts limits s) where
           paired = p .paired;
           few = p .few;
           sound = p .sound;
-          small = subst (Small 8) l (small-made 8 (base s) (gate i j) (p .small));
-          alive = subst (λ (x : List Line). Alive x rs) l (alive-more (base s) (made (base s) (gate i j)) (p .small) (small-made 8 (base s) (gate i j) (p .small)) rs (p .sound) (p .alive));
+          small = subst (Small 8) l (small-made 8 (base s) (xor i j) (p .small));
+          alive = subst (λ (x : List Line). Alive x rs) l (alive-more (base s) (made (base s) (xor i j)) (p .small) (small-made 8 (base s) (xor i j) (p .small)) rs (p .sound) (p .alive));
           near = subst (λ (x : List Line). sum (distances x rs) ≤ 4096) l (omega (arith, less .less, p .near));
           gaps-are = e .gaps-are;
         }
@@ -307,18 +306,18 @@ step : (f : ℕ) (ls : List Line) (rs : List Row) (x : Bool) → 0 < f → eqb (
 step zero ls rs x h e = absurd (omega arith)
 step (suc f) ls rs x h e = let p : suc f - 1 ≡ f = omega arith in rw (p, e)
 
-module _ (first : List Line) (ts limits : List ℕ) (s : State) (z : Stands first ts limits s) where
+module _ (first : List Line) (ts limits : List ℕ) (s : State) (z : SoFar first ts limits s) where
   abbrev rows : List Row
   rows = rowsOf ts limits
 
   -- nothing more is taken
   ended : greedy (224 - s .count) (base s) rows ≡ [] → Grown first rows s
   ended e =
-      let t : taken first rows ≡ z .so-far = z .written ∙ ap (λ (l : List Gate). z .so-far ++ l) e ∙ append-nil (z .so-far) in
+      let t : taken first rows ≡ z .so-far = z .written ∙ ap (λ (l : List Xor). z .so-far ++ l) e ∙ append-nil (z .so-far) in
       record {
         lines-are = sym (z .ran ∙ ap (run (base s)) e);
-        lefts = z .lefts ∙ ap (λ (l : List Gate). padded 248 0 (map (λ (g : Gate). g .a) l)) (sym t);
-        rights = z .rights ∙ ap (λ (l : List Gate). padded 248 0 (map (λ (g : Gate). g .b) l)) (sym t);
+        lefts = z .lefts ∙ ap (λ (l : List Xor). padded 248 0 (map (λ (g : Xor). g .a) l)) (sym t);
+        rights = z .rights ∙ ap (λ (l : List Xor). padded 248 0 (map (λ (g : Xor). g .b) l)) (sym t);
         counted = sym (z .counted) ∙ ap length (sym t);
         within = z .poised .within;
       }
@@ -329,34 +328,34 @@ module _ (first : List Line) (ts limits : List ℕ) (s : State) (z : Stands firs
   pub grown-end : 224 ≤ s .count → Grown first rows s
   grown-end q = ended (let e : 224 - s .count ≡ 0 = omega arith in ap (λ (x : ℕ). greedy x (base s) rows) e)
 
-  pub stands-next : (h g : List ℕ) (r : State) (i j : ℕ) → Tabled ts limits s h → Next (base s) rows i j → s .count < 224 → Stepped ts limits s r g i j → Stands first ts limits r
+  pub stands-next : (h g : List ℕ) (r : State) (i j : ℕ) → Tabled ts limits s h → Next (base s) rows i j → s .count < 224 → Stepped ts limits s r g i j → SoFar first ts limits r
   stands-next h g r i j t nx q e =
       let b = sym (e .lines-are) in
       let f : 224 - s .count - 1 ≡ 224 - r .count = omega (arith, e .counted) in
-      let more : greedy (224 - s .count) (base s) rows ≡ gate i j ∷ greedy (224 - r .count) (base r) rows =
+      let more : greedy (224 - s .count) (base s) rows ≡ xor i j ∷ greedy (224 - r .count) (base r) rows =
       step (224 - s .count) (base s) rows false (omega arith) (nx .left-to-do)
       ∙ (λ u. nx .is u ∷ greedy (f u) (base s ++ (made (base s) (nx .is u) ∷ [])) rows)
-      ∙ ap (λ (l : List Line). gate i j ∷ greedy (224 - r .count) l rows) b in
+      ∙ ap (λ (l : List Line). xor i j ∷ greedy (224 - r .count) l rows) b in
       record {
         poised = poised-next ts limits s (z .poised) h t i j nx r g q (omega (arith, z .long, z .few-inputs)) e;
-        so-far = z .so-far ++ (gate i j ∷ []);
-        counted = omega (arith, length-append (z .so-far) (gate i j ∷ []), z .counted, e .counted);
+        so-far = z .so-far ++ (xor i j ∷ []);
+        counted = omega (arith, length-append (z .so-far) (xor i j ∷ []), z .counted, e .counted);
         upto = omega (arith, e .counted);
         written =
             z .written
-            ∙ ap (λ (l : List Gate). z .so-far ++ l) more
-            ∙ sym (append-assoc (z .so-far) (gate i j ∷ []) (greedy (224 - r .count) (base r) rows));
+            ∙ ap (λ (l : List Xor). z .so-far ++ l) more
+            ∙ sym (append-assoc (z .so-far) (xor i j ∷ []) (greedy (224 - r .count) (base r) rows));
         ran = z .ran ∙ ap (run (base s)) more ∙ ap (λ (l : List Line). run l (greedy (224 - r .count) (base r) rows)) b;
-        lefts = put (λ (x : Gate). x .a) (s .left) (r .left) i (z .lefts) (e .lefts) refl;
-        rights = put (λ (x : Gate). x .b) (s .right) (r .right) j (z .rights) (e .rights) refl;
+        lefts = put (λ (x : Xor). x .a) (s .left) (r .left) i (z .lefts) (e .lefts) refl;
+        rights = put (λ (x : Xor). x .b) (s .right) (r .right) j (z .rights) (e .rights) refl;
         few-inputs = z .few-inputs;
         long = omega (arith, z .long, e .long, e .counted);
       }
     where
-      put : (f : Gate → ℕ) (old new : List ℕ) (v : ℕ) → old ≡ padded 248 0 (map f (z .so-far)) → new ≡ set old (s .count) v → f (gate i j) ≡ v
-          → new ≡ padded 248 0 (map f (z .so-far ++ (gate i j ∷ [])))
+      put : (f : Xor → ℕ) (old new : List ℕ) (v : ℕ) → old ≡ padded 248 0 (map f (z .so-far)) → new ≡ set old (s .count) v → f (xor i j) ≡ v
+          → new ≡ padded 248 0 (map f (z .so-far ++ (xor i j ∷ [])))
       put f old new v a b k =
           b
           ∙ ap (λ (l : List ℕ). set l (s .count) v) a
           ∙ padded-put 248 0 (map f (z .so-far)) (s .count) v (omega (arith, length-map (z .so-far) f, z .counted)) (omega arith)
-          ∙ ap (padded 248 0) (ap (λ (x : ℕ). map f (z .so-far) ++ (x ∷ [])) (sym k) ∙ sym (map-snoc f (z .so-far) (gate i j)))
+          ∙ ap (padded 248 0) (ap (λ (x : ℕ). map f (z .so-far) ++ (x ∷ [])) (sym k) ∙ sym (map-snoc f (z .so-far) (xor i j)))

@@ -12,28 +12,28 @@ use Rattle.circuit.specs.Stored.{stored}
 use Rattle.circuit.specs.Reading.{shaped, readStored}
 use Rattle.circuit.specs.Reading.Outcome.{found}
 use Rattle.circuit.proofs.Round.{read-stored}
-use Rattle.distance.specs.Base.{Line, Gate, Small, inputs, weight}
-use Rattle.builder.specs.Rule.{Row, distances, sum, nextGate, taken, xorGate, circuitOf}
+use Rattle.distance.specs.Base.{Line, Xor, Small, inputs, weight}
+use Rattle.builder.specs.Rule.{Row, distances, sum, nextGate, taken, xorGate, greedyCircuit}
 use Rattle.builder.specs.Call.{within, built, badRow, tooHeavy, refusal}
 use Rattle.builder.specs.Matrix.{rowOn, Computes}
-use Rattle.builder.specs.Kept.{Sounds, Alive}
+use Rattle.builder.specs.Kept.{SoundRows, Alive}
 use Rattle.builder.proofs.Refusals.{accepted}
 use Rattle.builder.proofs.Ends as ends
 use Rattle.builder.proofs.Solved as solved
 use Rattle.builder.proofs.Promise as promise
 
 -- ---- The rule ends: where every row has a distance, a step takes a gate that reads two lines, is no deeper than the greatest limit, and makes the sum of the distances fall.
-pub each-step-falls : (ls : List Line) (rs : List Row) → Small 8 ls → Sounds rs → Alive ls rs → sum (distances ls rs) ≤ 4096 → 0 < sum (distances ls rs) → ends.Less ls rs (nextGate ls rs)
+pub each-step-falls : (ls : List Line) (rs : List Row) → Small 8 ls → SoundRows rs → Alive ls rs → sum (distances ls rs) ≤ 4096 → 0 < sum (distances ls rs) → ends.Less ls rs (nextGate ls rs)
 each-step-falls = ends.next-less
 
 -- A matrix that nothing refuses.
 module _ (n : ℕ) (ts : List ℕ) (D : ℕ) (ok : refusal n ts D ≡ Done) where
   -- The program built has only XOR gates,
   pub only-xor : (k : ℕ) → gateAt (built n ts D) k .kind ≡ 0
-  unfolding built circuitOf
+  unfolding built greedyCircuit
   only-xor k = kinds (taken (inputs n) (within D ts)) k
     where
-      kinds : (gs : List Gate) (k : ℕ) → getD (map xorGate gs) k noGate .kind ≡ 0
+      kinds : (gs : List Xor) (k : ℕ) → getD (map xorGate gs) k noGate .kind ≡ 0
       kinds [] k = refl
       kinds (g ∷ gs) zero = refl
       kinds (g ∷ gs) (suc k) = kinds gs k
@@ -65,5 +65,5 @@ module _ (n : ℕ) (ts : List ℕ) (D : ℕ) (shape : shaped n (length ts) 0 ≡
   too-shallow-is-heavy = (solved.shallow-heavy n ts D shape rows depth, solved.heavy-shallow n ts D shape rows depth)
 
   -- and that is the same as no XOR program of that depth computing the matrix.
-  pub too-shallow-is-no-program : (refusal n ts D ≡ Refused TooShallow) ↔ ((gs : List Gate) → Computes n ts D gs → ⊥)
+  pub too-shallow-is-no-program : (refusal n ts D ≡ Refused TooShallow) ↔ ((gs : List Xor) → Computes n ts D gs → ⊥)
   too-shallow-is-no-program = (solved.shallow-none n ts D shape rows depth, solved.none-shallow n ts D shape rows depth)

@@ -8,9 +8,9 @@ use lib.Bits.{bitXor, xor-lt}
 use lib.ListN.{length, getD, take}
 use Rattle.circuit.specs.Lines.{greatest}
 use Rattle.circuit.proofs.Padding.{padded-take}
-use Rattle.distance.specs.Base.{Line, lines, Gate, gate, made, Shallow}
+use Rattle.distance.specs.Base.{Line, baseOf, Xor, xor, made, Shallow}
 use Rattle.builder.specs.Rule.{Row, row, away, distances, sum, squares, deepest, Best, best, start, better, consider, allPairs, distancesAfter, bestPair}
-use Rattle.builder.specs.Kept.{Sound, rowsOf, goalsAfter, goalsWith, toGo, placeOf, roomOf, lowOf, Goals, Aimed, Choosing, Weighing}
+use Rattle.builder.specs.Kept.{SoundRow, rowsOf, goalsAfter, goalsWith, toGo, placeOf, roomOf, lowOf, Goals, Aimed, Choosing, Weighing}
 use Rattle.builder.proofs.Reach.{away-lt}
 use Rattle.builder.proofs.Goals.{Missed, Alike, alike, are-goals}
 use Rattle.builder.proofs.Lists.{made-at, lines-length, lines-small, rows-length, rows-at, rows-limits, map-at, greatest-below}
@@ -24,35 +24,35 @@ low-sum (g ∷ gs) f = omega (arith, f 0, low-sum gs (λ i. f (suc i)))
 -- ---- the pair (i, j) of two lists, of depth w and cost c
 module _ (ms ds ps fs gs h : List ℕ) (i j w c : ℕ) (l : length ms ≡ length ds) (shallow : Shallow ds) (e : w ≡ min 255 (suc (max (getD ds i 0) (getD ds j 0)))) (ec : c ≡ 2 ^ w) (top : ℕ) (b : Best) where
   abbrev ls : List Line
-  ls = lines ms ds
+  ls = baseOf ms ds
 
   abbrev m : ℕ
   m = bitXor (getD ms i 0) (getD ms j 0)
 
-  abbrev after : Gate → List ℕ
+  abbrev after : Xor → List ℕ
   after = goalsWith ls h ps fs gs
 
-  deep : made ls (gate i j) .depth ≡ w
+  deep : made ls (xor i j) .depth ≡ w
   deep = depth-at ms ds i j w l shallow e
 
-  after-is : after (gate i j) ≡ goalsAfter h m c ps fs gs
+  after-is : after (xor i j) ≡ goalsAfter h m c ps fs gs
   after-is =
       ap₂ (λ (x y : ℕ). goalsAfter h x y ps fs gs) (ap (λ (x : Line). x .mask) (made-at ms ds i j l)) (ap (λ (x : ℕ). 2 ^ x) deep ∙ sym ec)
 
-  pub pair-deep : top < w → consider ls after top (gate i j) b ≡ b
-  pair-deep p = consider-deep ls after top (gate i j) b (omega (arith, deep))
+  pub pair-deep : top < w → consider ls after top (xor i j) b ≡ b
+  pair-deep p = consider-deep ls after top (xor i j) b (omega (arith, deep))
 
-  pub pair-over : (r s : ℕ) → w ≤ top → Missed h m c ps fs gs r s → b .total < s → consider ls after top (gate i j) b ≡ b
-  pair-over r s p q k = consider-over ls after top (gate i j) b s (omega (arith, deep)) k (omega (arith, q .total, ap sum after-is))
+  pub pair-over : (r s : ℕ) → w ≤ top → Missed h m c ps fs gs r s → b .total < s → consider ls after top (xor i j) b ≡ b
+  pair-over r s p q k = consider-over ls after top (xor i j) b s (omega (arith, deep)) k (omega (arith, q .total, ap sum after-is))
 
-  pub pair-done : (s q : ℕ) (x : Bool) → w ≤ top → sum (goalsAfter h m c ps fs gs) ≡ s → q ≡ squares (goalsAfter h m c ps fs gs) → better (best s q (gate i j)) b ≡ x
-      → consider ls after top (gate i j) b ≡ cond x (best s q (gate i j)) b
-  pair-done s q x p a k v = consider-done ls after top (gate i j) b s q x (omega (arith, deep)) (ap sum after-is ∙ a) (ap squares after-is ∙ sym k) v
+  pub pair-done : (s q : ℕ) (x : Bool) → w ≤ top → sum (goalsAfter h m c ps fs gs) ≡ s → q ≡ squares (goalsAfter h m c ps fs gs) → better (best s q (xor i j)) b ≡ x
+      → consider ls after top (xor i j) b ≡ cond x (best s q (xor i j)) b
+  pair-done s q x p a k v = consider-done ls after top (xor i j) b s q x (omega (arith, deep)) (ap sum after-is ∙ a) (ap squares after-is ∙ sym k) v
 
 -- ---- what a choice is given
 module _ (ms ds ts limits gaps h : List ℕ) (z : Choosing ms ds ts limits gaps h) (bytes : (i : ℕ) → getD ms i 0 < 256) (masks : (i : ℕ) → getD ts i 0 < 256) where
   abbrev base : List Line
-  base = lines ms ds
+  base = baseOf ms ds
 
   abbrev rows : List Row
   rows = rowsOf ts limits
@@ -60,7 +60,7 @@ module _ (ms ds ts limits gaps h : List ℕ) (z : Choosing ms ds ts limits gaps 
   pub gaps-length : length ts ≡ length gaps
   gaps-length = omega (arith, rows-length ts limits (z .paired), ap length (z .gaps-are), lib.ListN.length-map rows (away base))
 
-  pub sound-at : (i : ℕ) → i < length ts → Sound (row (getD ts i 0) (getD limits i 0))
+  pub sound-at : (i : ℕ) → i < length ts → SoundRow (row (getD ts i 0) (getD limits i 0))
   sound-at i p = record { some = z .some i p; shallow = z .limited i }
 
   -- the distance at a place
@@ -96,29 +96,29 @@ module _ (ms ds ts limits gaps h : List ℕ) (z : Choosing ms ds ts limits gaps 
   weighing-given floor e = record { even = z .even; shallow = z .shallow; goals = goals-given; cap = z .held .cap; deep = limit-top; floor-is = e }
 
   -- by the goals the same pair is chosen
-  pub best-given : (t q i j : ℕ) → allPairs base (goalsWith base h ps fs gs) (greatest limits) (length ms) 0 start ≡ best t q (gate i j) → bestPair base rows ≡ gate i j
+  pub best-given : (t q i j : ℕ) → allPairs base (goalsWith base h ps fs gs) (greatest limits) (length ms) 0 start ≡ best t q (xor i j) → bestPair base rows ≡ xor i j
   best-given t q i j e =
       let n = lines-length ms ds (z .even) in
       let small = lines-small ms ds bytes in
       let d : deepest rows ≡ greatest limits = ap greatest (rows-limits ts limits (z .paired)) in
       let g : (x y : ℕ) → x < y → y < length base
-      → (sum (distancesAfter base rows (gate x y)) ≡ sum (goalsWith base h ps fs gs (gate x y))) × (squares (distancesAfter base rows (gate x y)) ≡ squares (goalsWith base h ps fs gs (gate x y))) =
-      λ x y p k. alike-sums x y (alike h base (greatest gaps) (gate x y) (z .held) small (omega arith) k (mask-small x y) ts limits (z .paired) sound-at masks (omega (arith, ap greatest (z .gaps-are)))) in
+      → (sum (distancesAfter base rows (xor x y)) ≡ sum (goalsWith base h ps fs gs (xor x y))) × (squares (distancesAfter base rows (xor x y)) ≡ squares (goalsWith base h ps fs gs (xor x y))) =
+      λ x y p k. alike-sums x y (alike h base (greatest gaps) (xor x y) (z .held) small (omega arith) k (mask-small x y) ts limits (z .paired) sound-at masks (omega (arith, ap greatest (z .gaps-are)))) in
       ap (λ (b : Best). b .pair)
       (same-pairs base (distancesAfter base rows) (goalsWith base h ps fs gs) (deepest rows) g (length base) 0 start (omega arith)
       ∙ ap₂ (λ (u v : ℕ). allPairs base (goalsWith base h ps fs gs) u v 0 start) d n ∙ e)
     where
-      mask-small : (x y : ℕ) → made base (gate x y) .mask < 256
+      mask-small : (x y : ℕ) → made base (xor x y) .mask < 256
       mask-small x y = subst (λ (u : Line). u .mask < 256) (sym (made-at ms ds x y (z .even))) (xor-lt 8 (getD ms x 0) (getD ms y 0) (bytes x) (bytes y))
 
       same : goalsWith base h (toGo placeOf (distances base rows) ts) (toGo roomOf (distances base rows) limits) (toGo lowOf (distances base rows) ts) ≡ goalsWith base h ps fs gs
       same = ap (λ (l : List ℕ). goalsWith base h (toGo placeOf l ts) (toGo roomOf l limits) (toGo lowOf l ts)) (sym (z .gaps-are))
 
       alike-sums : (x y : ℕ)
-          → Alike (distancesAfter base rows (gate x y))
-          (goalsWith base h (toGo placeOf (distances base rows) ts) (toGo roomOf (distances base rows) limits) (toGo lowOf (distances base rows) ts) (gate x y))
-          → (sum (distancesAfter base rows (gate x y)) ≡ sum (goalsWith base h ps fs gs (gate x y))) × (squares (distancesAfter base rows (gate x y)) ≡ squares (goalsWith base h ps fs gs (gate x y)))
-      alike-sums x y a = (a .sums ∙ ap (λ (f : Gate → List ℕ). sum (f (gate x y))) same, a .squares-too ∙ ap (λ (f : Gate → List ℕ). squares (f (gate x y))) same)
+          → Alike (distancesAfter base rows (xor x y))
+          (goalsWith base h (toGo placeOf (distances base rows) ts) (toGo roomOf (distances base rows) limits) (toGo lowOf (distances base rows) ts) (xor x y))
+          → (sum (distancesAfter base rows (xor x y)) ≡ sum (goalsWith base h ps fs gs (xor x y))) × (squares (distancesAfter base rows (xor x y)) ≡ squares (goalsWith base h ps fs gs (xor x y)))
+      alike-sums x y a = (a .sums ∙ ap (λ (f : Xor → List ℕ). sum (f (xor x y))) same, a .squares-too ∙ ap (λ (f : Xor → List ℕ). squares (f (xor x y))) same)
 
   -- the same of the goals as they stand in three arrays
   module _ (P R L : List ℕ) (k floor : ℕ) (a : Aimed ts limits gaps P R L k floor) where
@@ -137,7 +137,7 @@ module _ (ms ds ts limits gaps h : List ℕ) (z : Choosing ms ds ts limits gaps 
     pub weighing-taken : (top : ℕ) → top ≡ greatest limits → Weighing ms ds (take k P) (take k R) (take k L) h top floor
     weighing-taken top e = rw (places-taken, rooms-taken, lows-taken, e) (weighing-given floor (a .floor-is))
 
-    pub best-taken : (top t q i j : ℕ) → top ≡ greatest limits → allPairs base (goalsWith base h (take k P) (take k R) (take k L)) top (length ms) 0 start ≡ best t q (gate i j) → bestPair base rows ≡ gate i j
+    pub best-taken : (top t q i j : ℕ) → top ≡ greatest limits → allPairs base (goalsWith base h (take k P) (take k R) (take k L)) top (length ms) 0 start ≡ best t q (xor i j) → bestPair base rows ≡ xor i j
     best-taken top t q i j e w =
         best-given t q i j
         ((λ u. allPairs base (goalsWith base h (sym places-taken u) (sym rooms-taken u) (sym lows-taken u)) (sym e u) (length ms) 0 start) ∙ w)

@@ -15,7 +15,7 @@ use Rattle.circuit.specs.Reading.{shaped, unless}
 use Rattle.circuit.specs.Writing.{intoRoom, roomAfter, writingCode}
 use Rattle.distance.specs.Base.{inputs, weight}
 use Rattle.builder.specs.declared.Planned.{Planned}
-use Rattle.builder.specs.Rule.{Row, row, circuitOf}
+use Rattle.builder.specs.Rule.{Row, row, greedyCircuit}
 
 -- every row has the limit D
 abbrev pub within : ℕ → List ℕ → List Row
@@ -23,7 +23,7 @@ within D ts = map (λ (t : ℕ). row t D) ts
 
 -- the circuit that is built: the base begins with the n inputs at depth 0
 unfoldable pub built : ℕ → List ℕ → ℕ → Listing
-built n ts D = circuitOf n (inputs n) (within D ts)
+built n ts D = greedyCircuit n (inputs n) (within D ts)
 
 -- a row is 0, or reaches 2 ^ n
 abbrev pub badRow : ℕ → ℕ → Bool

@@ -7,7 +7,7 @@ use lib.Bits.{bitXor}
 use lib.Dec.{leb, eqb}
 use lib.ListN.{length, getD, take, set, replicate}
 use Rattle.circuit.specs.Lines.{padded, greatest}
-use Rattle.distance.specs.Base.{Line, lines, Small, Shallow, Gate, gate, made, run, weight}
+use Rattle.distance.specs.Base.{Line, baseOf, Small, Shallow, Xor, xor, made, run, weight}
 use Rattle.distance.specs.Distance.{gates}
 use Rattle.distance.specs.Table.{far, costAt, Holds}
 use Rattle.builder.specs.declared.grow.State.{State}
@@ -20,14 +20,14 @@ rowsOf (t ∷ ts) [] = []
 rowsOf (t ∷ ts) (d ∷ ds) = row t d ∷ rowsOf ts ds
 
 -- a row that the rule is applied to: its mask is not 0, and its limit at most 15
-pub record Sound (r : Row) : Type 0 where
+pub record SoundRow (r : Row) : Type 0 where
   pub some : r .mask ≡ 0 → ⊥
   pub shallow : r .limit < 16
 
 -- each row is sound
-abbrev pub Sounds : List Row → Type 0
-Sounds [] = Unit {0}
-Sounds (r ∷ rs) = Sound r × Sounds rs
+abbrev pub SoundRows : List Row → Type 0
+SoundRows [] = Unit {0}
+SoundRows (r ∷ rs) = SoundRow r × SoundRows rs
 
 -- each row has a distance
 abbrev pub Alive : List Line → List Row → Type 0
@@ -103,7 +103,8 @@ pub record Aimed (ts limits gaps places rooms lows : List ℕ) (k floor : ℕ) :
   pub count-is : k ≡ length (toGo lowOf gaps ts)
   pub floor-is : floor ≡ sum (toGo lowOf gaps ts)
 
--- ---- what the choice of a gate is given: the base in two lists, the rows in two more, their distances, and the table
+-- ---- the choice of a gate
+
 -- what the choice of a gate is given: the base in two lists, the rows in two more, their distances, and the table
 pub record Choosing (ms ds ts limits gaps h : List ℕ) : Type 0 where
   pub even : length ms ≡ length ds
@@ -112,8 +113,8 @@ pub record Choosing (ms ds ts limits gaps h : List ℕ) : Type 0 where
   pub few : length ts ≤ 32
   pub some : (i : ℕ) → i < length ts → getD ts i 0 ≡ 0 → ⊥
   pub limited : Shallow limits
-  pub gaps-are : gaps ≡ distances (lines ms ds) (rowsOf ts limits)
-  pub held : Held h (lines ms ds) (greatest gaps)
+  pub gaps-are : gaps ≡ distances (baseOf ms ds) (rowsOf ts limits)
+  pub held : Held h (baseOf ms ds) (greatest gaps)
 
 -- what the weighing of the pairs is given: the base, the goals, the greatest depth, and the sum of the lows
 pub record Weighing (ms ds ps fs gs h : List ℕ) (top floor : ℕ) : Type 0 where
@@ -125,7 +126,7 @@ pub record Weighing (ms ds ps fs gs h : List ℕ) (top floor : ℕ) : Type 0 whe
   pub floor-is : floor ≡ sum gs
 
 -- the goals' distances after gate g
-abbrev pub goalsWith : List Line → List ℕ → List ℕ → List ℕ → List ℕ → Gate → List ℕ
+abbrev pub goalsWith : List Line → List ℕ → List ℕ → List ℕ → List ℕ → Xor → List ℕ
 goalsWith ls h ps fs gs g = goalsAfter h (made ls g .mask) (2 ^ (made ls g .depth)) ps fs gs
 
 -- a row's distance after a line with mask m and cost c, from its distance before, its mask and its limit
@@ -143,7 +144,7 @@ nextGaps h m c (g ∷ gs) (t ∷ ts) (d ∷ ds) = nextGap h m c g t d ∷ nextGa
 -- the choice: whether every row is made, and if not, the next gate
 pub record Chosen (ls : List Line) (rs : List Row) (over : Bool) (i j : ℕ) : Type 0 where
   pub over-is : over ≡ eqb (sum (distances ls rs)) 0
-  pub pair : over ≡ false → nextGate ls rs ≡ gate i j
+  pub pair : over ≡ false → nextGate ls rs ≡ xor i j
 
 -- ---- the steps
 
@@ -158,7 +159,7 @@ pub record Lowering (gaps ts limits h : List ℕ) (c : ℕ) : Type 0 where
 
 -- the base that a state holds: the first `len` entries of its two arrays
 unfoldable pub base : State → List Line
-base s = lines (take (s .len) (s .masks)) (take (s .len) (s .depths))
+base s = baseOf (take (s .len) (s .masks)) (take (s .len) (s .depths))
 
 -- a state from which the rule can go on: every row has a distance, and the distances stand in the state
 pub record Poised (ts limits : List ℕ) (s : State) : Type 0 where
@@ -168,7 +169,7 @@ pub record Poised (ts limits : List ℕ) (s : State) : Type 0 where
   pub shallow : Shallow (s .depths)
   pub paired : length ts ≡ length limits
   pub few : length ts ≤ 32
-  pub sound : Sounds (rowsOf ts limits)
+  pub sound : SoundRows (rowsOf ts limits)
   pub small : Small 8 (base s)
   pub alive : Alive (base s) (rowsOf ts limits)
   pub near : sum (distances (base s) (rowsOf ts limits)) ≤ 4096
@@ -181,11 +182,11 @@ Tabled ts limits s h = Held h (base s) (greatest (distances (base s) (rowsOf ts 
 -- the gate (i, j) is the next one
 pub record Next (ls : List Line) (rs : List Row) (i j : ℕ) : Type 0 where
   pub left-to-do : eqb (sum (distances ls rs)) 0 ≡ false
-  pub is : nextGate ls rs ≡ gate i j
+  pub is : nextGate ls rs ≡ xor i j
 
 -- r is s with the gate (i, j), and h the table of r
 pub record Stepped (ts limits : List ℕ) (s r : State) (h : List ℕ) (i j : ℕ) : Type 0 where
-  pub lines-are : base r ≡ base s ++ (made (base s) (gate i j) ∷ [])
+  pub lines-are : base r ≡ base s ++ (made (base s) (xor i j) ∷ [])
   pub long : r .len ≡ s .len + 1
   pub counted : r .count ≡ s .count + 1
   pub lefts : r .left ≡ set (s .left) (s .count) i
@@ -197,23 +198,23 @@ pub record Stepped (ts limits : List ℕ) (s r : State) (h : List ℕ) (i j : �
   pub tabled : Tabled ts limits r h
 
 -- the state after some steps from the base `first`
-pub record Stands (first : List Line) (ts limits : List ℕ) (s : State) : Type 0 where
+pub record SoFar (first : List Line) (ts limits : List ℕ) (s : State) : Type 0 where
   pub poised : Poised ts limits s
-  pub so-far : List Gate
+  pub so-far : List Xor
   pub counted : length so-far ≡ s .count
   pub upto : s .count ≤ 224
   pub written : taken first (rowsOf ts limits) ≡ so-far ++ greedy (224 - s .count) (base s) (rowsOf ts limits)
   pub ran : run first (taken first (rowsOf ts limits)) ≡ run (base s) (greedy (224 - s .count) (base s) (rowsOf ts limits))
-  pub lefts : s .left ≡ padded 248 0 (map (λ (g : Gate). g .a) so-far)
-  pub rights : s .right ≡ padded 248 0 (map (λ (g : Gate). g .b) so-far)
+  pub lefts : s .left ≡ padded 248 0 (map (λ (g : Xor). g .a) so-far)
+  pub rights : s .right ≡ padded 248 0 (map (λ (g : Xor). g .b) so-far)
   pub few-inputs : length first ≤ 8
   pub long : s .len ≡ length first + s .count
 
 -- the end: all the gates, and all the lines
 pub record Grown (first : List Line) (rs : List Row) (s : State) : Type 0 where
   pub lines-are : base s ≡ run first (taken first rs)
-  pub lefts : s .left ≡ padded 248 0 (map (λ (g : Gate). g .a) (taken first rs))
-  pub rights : s .right ≡ padded 248 0 (map (λ (g : Gate). g .b) (taken first rs))
+  pub lefts : s .left ≡ padded 248 0 (map (λ (g : Xor). g .a) (taken first rs))
+  pub rights : s .right ≡ padded 248 0 (map (λ (g : Xor). g .b) (taken first rs))
   pub counted : s .count ≡ length (taken first rs)
   pub within : s .len < 256
 

@@ -4,9 +4,8 @@ use mathlib.Core.List.{List, [], _∷_, _++_, map}
 use Prim.Native.Nat.{ℕ, zero, suc, _+_, _-_, _*_}
 use lib.Dec.{leb, ltb, eqb}
 use lib.ListN.{length}
-use Rattle.circuit.specs.Lines.{Listing, greatest}
-use Rattle.circuit.specs.Lines as lines
-use Rattle.distance.specs.Base.{Line, Gate, gate, made, run}
+use Rattle.circuit.specs.Lines.{Gate, Listing, greatest}
+use Rattle.distance.specs.Base.{Line, Xor, xor, made, run}
 use Rattle.distance.specs.Distance.{Gap, gates, never, distance}
 
 -- a row: the mask of the inputs that are summed into an output, and the depth that the output may have
@@ -56,19 +55,19 @@ makes r l = eqb (l .mask) (r .mask) && leb (l .depth) (r .limit)
 -- ---- a row has distance 1: the lowest such row, and the first pair of lines making it
 module _ (ls : List Line) where
   -- of the f pairs (i, j), (i, j + 1) and so on, the first that makes r; or g
-  abbrev pub firstIn : Row → ℕ → ℕ → ℕ → Gate → Gate
+  abbrev pub firstIn : Row → ℕ → ℕ → ℕ → Xor → Xor
   firstIn r zero i j g = g
   firstIn r (suc f) i j g =
       let more = firstIn r f i (suc j) g in
-      cond (makes r (made ls (gate i j))) (gate i j) more
+      cond (makes r (made ls (xor i j))) (xor i j) more
 
   -- of the pairs (i, j) with i < j, ordered by i, then j, whose first line is one of f from i on
-  abbrev pub firstPair : Row → ℕ → ℕ → Gate
-  firstPair r zero i = gate 0 0
+  abbrev pub firstPair : Row → ℕ → ℕ → Xor
+  firstPair r zero i = xor 0 0
   firstPair r (suc f) i = let more = firstPair r f (suc i) in firstIn r (length ls - suc i) i (suc i) more
 
   -- the lowest row of distance 1 and its first pair; or g
-  abbrev pub immediate : List Row → Gate → Gate
+  abbrev pub immediate : List Row → Xor → Xor
   immediate [] g = g
   immediate (r ∷ rs) g =
       let more = immediate rs g in
@@ -81,28 +80,28 @@ module _ (ls : List Line) where
 pub record Best : Type 0 where
   pub total : ℕ
   pub square : ℕ
-  pub pair : Gate
+  pub pair : Xor
 
 -- a pair with the sums that it gives
-abbrev pub best : ℕ → ℕ → Gate → Best
+abbrev pub best : ℕ → ℕ → Xor → Best
 best s q g = record { total = s; square = q; pair = g }
 
 -- no pair yet: 32 distances sum to less
 abbrev pub start : Best
-start = best 4096 0 (gate 0 0)
+start = best 4096 0 (xor 0 0)
 
 -- a smaller sum, or the same sum and a larger sum of squares
 abbrev pub better : Best → Best → Bool
 better x y = ltb (x .total) (y .total) || (eqb (x .total) (y .total) && ltb (y .square) (x .square))
 
 -- a pair by the distances that it leaves
-abbrev pub scored : List ℕ → Gate → Best
+abbrev pub scored : List ℕ → Xor → Best
 scored ds g = best (sum ds) (squares ds) g
 
 -- `after g` are the distances once gate g is added, and `top` the depth that a pair may have
-module _ (ls : List Line) (after : Gate → List ℕ) (top : ℕ) where
+module _ (ls : List Line) (after : Xor → List ℕ) (top : ℕ) where
   -- a pair against the best so far: it must not be too deep, and must be better
-  abbrev pub consider : Gate → Best → Best
+  abbrev pub consider : Xor → Best → Best
   consider g b =
       let x = scored (after g) g in
       let y = cond (better x b) x b in
@@ -111,7 +110,7 @@ module _ (ls : List Line) (after : Gate → List ℕ) (top : ℕ) where
   -- the f pairs (i, j), (i, j + 1) and so on
   abbrev pub alongLine : ℕ → ℕ → ℕ → Best → Best
   alongLine zero i j b = b
-  alongLine (suc f) i j b = alongLine f i (suc j) (consider (gate i j) b)
+  alongLine (suc f) i j b = alongLine f i (suc j) (consider (xor i j) b)
 
   -- the pairs whose first line is one of f from i on
   abbrev pub allPairs : ℕ → ℕ → Best → Best
@@ -119,21 +118,21 @@ module _ (ls : List Line) (after : Gate → List ℕ) (top : ℕ) where
   allPairs (suc f) i b = allPairs f (suc i) (alongLine (length ls - suc i) i (suc i) b)
 
 -- the distances of the rows after a gate
-abbrev pub distancesAfter : List Line → List Row → Gate → List ℕ
+abbrev pub distancesAfter : List Line → List Row → Xor → List ℕ
 distancesAfter ls rs g = distances (ls ++ (made ls g ∷ [])) rs
 
 -- the best of all pairs
-abbrev pub bestPair : List Line → List Row → Gate
+abbrev pub bestPair : List Line → List Row → Xor
 bestPair ls rs = allPairs ls (distancesAfter ls rs) (deepest rs) (length ls) 0 start .pair
 
 -- the gate that a step adds
-abbrev pub nextGate : List Line → List Row → Gate
+abbrev pub nextGate : List Line → List Row → Xor
 nextGate ls rs = let other = bestPair ls rs in immediate ls rs other
 
 -- ---- the steps, and the end
 
 -- while some row has a distance above 0, and for at most f steps, a gate is added
-abbrev pub greedy : ℕ → List Line → List Row → List Gate
+abbrev pub greedy : ℕ → List Line → List Row → List Xor
 greedy zero ls rs = []
 greedy (suc f) ls rs =
     let g = nextGate ls rs in
@@ -141,7 +140,7 @@ greedy (suc f) ls rs =
     cond (eqb (sum (distances ls rs)) 0) [] more
 
 -- all the gates: the rows are made by at most 224 (shut, or the number of steps would be unfolded wherever it stands)
-unfoldable pub taken : List Line → List Row → List Gate
+unfoldable pub taken : List Line → List Row → List Xor
 taken ls rs = greedy 224 ls rs
 
 -- the row's lowest line, of lines that are numbered from i on
@@ -154,9 +153,9 @@ abbrev pub lowest : List Line → Row → ℕ
 lowest ls r = lowestFrom r 0 ls
 
 -- gate XOR i j as it stands in a circuit
-abbrev pub xorGate : Gate → lines.Gate
+abbrev pub xorGate : Xor → Gate
 xorGate g = record { kind = 0; left = g .a; right = g .b }
 
 -- the circuit over a base of n inputs: the gates taken, and each output names its row's lowest line within its limit
-unfoldable pub circuitOf : ℕ → List Line → List Row → Listing
-circuitOf n ls rs = record { inputs = n; gates = map xorGate (taken ls rs); outs = map (lowest (run ls (taken ls rs))) rs }
+unfoldable pub greedyCircuit : ℕ → List Line → List Row → Listing
+greedyCircuit n ls rs = record { inputs = n; gates = map xorGate (taken ls rs); outs = map (lowest (run ls (taken ls rs))) rs }

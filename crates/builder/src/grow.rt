@@ -2,7 +2,7 @@
 ghost use mathlib.Core.Path.{_≡_};
 ghost use Prim.Native.Nat.{_≤_, _<_};
 ghost use Rattle.circuit.specs.Lines.{padded};
-ghost use Rattle.builder.specs.Kept.{rowsOf, Capped, base, nextGap, nextGaps, Lowering, Poised, Tabled, Next, Stepped, Stands, Chosen, Grown};
+ghost use Rattle.builder.specs.Kept.{rowsOf, Capped, base, nextGap, nextGaps, Lowering, Poised, Tabled, Next, Stepped, SoFar, Chosen, Grown};
 use crate::pairs::Turn;
 use crate::pairs::misses;
 use crate::pairs::next_gate;
@@ -103,7 +103,7 @@ fn add_gate(s: State, rows: &[u8], limits: &[u8], h: &mut [u32; 2304], a: usize,
 
 // All the steps: while some row is not made, a gate is added, 224 at most.
 pub(crate) fn grow(start: State, rows: &[u8], limits: &[u8]) -> State
-    requires { ⌜ Stands (base start) (now rows) (now limits) start ⌝ }
+    requires { ⌜ SoFar (base start) (now rows) (now limits) start ⌝ }
     ensures { λ r. ⌜ Grown (base start) (rowsOf (now (rows .entry)) (now (limits .entry))) r ⌝ }
 {
     let len = start.len;

@@ -1,8 +1,8 @@
 // The choice of the next gate: the first pair that makes a row one gate away, or else the pair that leaves the least to do.
 ghost use mathlib.Core.Path.{_≡_};
-ghost use Prim.Native.Nat.{ℕ, _+_, _≤_, _<_};
+ghost use Prim.Native.Nat.{ℕ, _≤_, _<_};
 ghost use lib.ListN.{length, getD};
-ghost use Rattle.distance.specs.Base.{lines, Shallow, gate};
+ghost use Rattle.distance.specs.Base.{baseOf, Shallow, xor};
 ghost use Rattle.builder.specs.Rule.{row, squares, best, better, start, firstPair, allPairs, bestPair};
 ghost use Rattle.builder.specs.Kept.{rowsOf, Capped, misses as missesOf, goalsAfter, goalsWith, Goals as AreGoals, Weighing, Aimed, Choosing, Chosen};
 use circuit::depth::deeper;
@@ -66,7 +66,7 @@ fn square_sum(places: &[usize], rooms: &[u32], lows: &[u32], h: &[u32; 2304], m:
 
 // A smaller sum, or the same sum and a larger sum of squares.
 fn improves(sum: u32, sq: u32, total: u32, square: u32) -> bool
-    ensures { λ r. ⌜ r ≡ better (best sum sq (gate 0 0)) (best total square (gate 0 0)) ⌝ }
+    ensures { λ r. ⌜ r ≡ better (best sum sq (xor 0 0)) (best total square (xor 0 0)) ⌝ }
 {
     if sum < total {
         true
@@ -91,7 +91,7 @@ fn weigh(
     floor: u32,
 ) -> Pick
     requires { ⌜ Weighing (now masks) (now depths) (now places) (now rooms) (now lows) (now h) top floor ⌝ }
-    ensures { λ r. ⌜ allPairs (lines (now (masks .entry)) (now (depths .entry))) (goalsWith (lines (now (masks .entry)) (now (depths .entry))) (now (h .entry)) (now (places .entry)) (now (rooms .entry)) (now (lows .entry))) top (length (now (masks .entry))) 0 start ≡ best (r .total) (r .square) (gate (r .a) (r .b)) ⌝ }
+    ensures { λ r. ⌜ allPairs (baseOf (now (masks .entry)) (now (depths .entry))) (goalsWith (baseOf (now (masks .entry)) (now (depths .entry))) (now (h .entry)) (now (places .entry)) (now (rooms .entry)) (now (lows .entry))) top (length (now (masks .entry))) 0 start ≡ best (r .total) (r .square) (xor (r .a) (r .b)) ⌝ }
 {
     let mut total: u32 = 4096;
     let mut square: u32 = 0;
@@ -169,7 +169,7 @@ fn best_pair(
     h: &[u32; 2304],
 ) -> Pair
     requires { ⌜ Choosing (now masks) (now depths) (now rows) (now limits) (now gaps) (now h) ⌝ }
-    ensures { λ r. ⌜ bestPair (lines (now (masks .entry)) (now (depths .entry))) (rowsOf (now (rows .entry)) (now (limits .entry))) ≡ gate (r .a) (r .b) ⌝ }
+    ensures { λ r. ⌜ bestPair (baseOf (now (masks .entry)) (now (depths .entry))) (rowsOf (now (rows .entry)) (now (limits .entry))) ≡ xor (r .a) (r .b) ⌝ }
 {
     let goals = aim(rows, limits, gaps);
     let places = goals.places;
@@ -196,7 +196,7 @@ fn best_pair(
 // The first pair of lines that makes a row within its limit; lines 0 and 0 where there is none.
 fn first_pair(masks: &[u8], depths: &[u8], t: u8, limit: u8) -> Pair
     requires { ⌜ length (now masks) ≡ length (now depths) ⌝ ∗ ⌜ Shallow (now depths) ⌝ }
-    ensures { λ r. ⌜ firstPair (lines (now (masks .entry)) (now (depths .entry))) (row t limit) (length (now (masks .entry))) 0 ≡ gate (r .a) (r .b) ⌝ }
+    ensures { λ r. ⌜ firstPair (baseOf (now (masks .entry)) (now (depths .entry))) (row t limit) (length (now (masks .entry))) 0 ≡ xor (r .a) (r .b) ⌝ }
 {
     for i in 0..masks.len() {
         for j in i + 1..masks.len() {
@@ -220,7 +220,7 @@ pub(crate) fn next_gate(
     h: &[u32; 2304],
 ) -> Turn
     requires { ⌜ Choosing (now masks) (now depths) (now rows) (now limits) (now gaps) (now h) ⌝ }
-    ensures { λ r. ⌜ Chosen (lines (now (masks .entry)) (now (depths .entry))) (rowsOf (now (rows .entry)) (now (limits .entry))) (r .over) (r .a) (r .b) ⌝ }
+    ensures { λ r. ⌜ Chosen (baseOf (now (masks .entry)) (now (depths .entry))) (rowsOf (now (rows .entry)) (now (limits .entry))) (r .over) (r .a) (r .b) ⌝ }
 {
     let mut sum: u32 = 0;
     for i in 0..rows.len() {

@@ -7,7 +7,7 @@ ghost use lib.ListN.{length};
 ghost use Rattle.circuit.specs.Stored.{held};
 ghost use Rattle.circuit.specs.declared.Answer.the-variants.{Done};
 ghost use Rattle.circuit.specs.Lines.{padded};
-ghost use Rattle.distance.specs.Base.{lines, weight};
+ghost use Rattle.distance.specs.Base.{baseOf, weight};
 ghost use Rattle.builder.specs.Rule.{row, lowest as lowestOf};
 ghost use Rattle.builder.specs.Call.{built, refusal};
 ghost use Rattle.builder.specs.Kept.{rowsOf, Fit, Begun};
@@ -57,7 +57,7 @@ fn begin(n: usize, rows: &[u8]) -> State
 // The number of the row's lowest line within its limit, or 0.
 fn lowest(masks: &[u8], depths: &[u8], t: u8, limit: u8) -> usize
     requires { ⌜ length (now masks) ≡ length (now depths) ⌝ }
-    ensures { λ r. ⌜ r ≡ lowestOf (lines (now (masks .entry)) (now (depths .entry))) (row t limit) ⌝ }
+    ensures { λ r. ⌜ r ≡ lowestOf (baseOf (now (masks .entry)) (now (depths .entry))) (row t limit) ⌝ }
 {
     for i in 0..masks.len() {
         if masks[i] == t {
@@ -72,7 +72,7 @@ fn lowest(masks: &[u8], depths: &[u8], t: u8, limit: u8) -> usize
 // The lines that the outputs name.
 fn outputs(masks: &[u8], depths: &[u8], rows: &[u8], limits: &[u8]) -> [u8; 32]
     requires { ⌜ length (now masks) ≡ length (now depths) ⌝ ∗ ⌜ length (now rows) ≡ length (now limits) ⌝ ∗ ⌜ length (now rows) ≤ 32 ⌝ ∗ ⌜ length (now masks) ≤ 256 ⌝ }
-    ensures { λ r. ⌜ r ≡ padded 32 0 (map (lowestOf (lines (now (masks .entry)) (now (depths .entry)))) (rowsOf (now (rows .entry)) (now (limits .entry)))) ⌝ }
+    ensures { λ r. ⌜ r ≡ padded 32 0 (map (lowestOf (baseOf (now (masks .entry)) (now (depths .entry)))) (rowsOf (now (rows .entry)) (now (limits .entry)))) ⌝ }
 {
     let mut outs = [0u8; 32];
     for i in 0..rows.len() {

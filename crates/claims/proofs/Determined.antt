@@ -7,6 +7,7 @@
 --   builder:  plan
 --   bench:    opening::empty, storing::circuit_of
 --   lent:     linked::allpawasi_distance
+--   text:     find, skip, read_number, all_hex, at_most, is_free, same, and, in the first half of their promise, nibble and trim
 -- A promise that says more has its own lemma:
 --   | function                                                 | lemma                                             |
 --   |----------------------------------------------------------|---------------------------------------------------|
@@ -15,48 +16,53 @@
 --   | distance table::take_in, table::fill                     | take-in-determined, fill-determined               |
 --   | builder build                                            | build-determined                                  |
 --   | builder build_no, linked::allpawasi_build                | build-number-determined                           |
---   | bench and lent open_matrix, open_table                   | open-determined                                   |
---   | bench and lent replace_gate                              | replace-gate-determined                           |
---   | bench and lent point_output                              | point-output-determined                           |
---   | bench and lent change_entry                              | change-entry-determined                           |
---   | bench and lent set_limits                                | set-limits-determined                             |
---   | bench and lent report, store                             | report-determined, store-determined               |
---   | coded and lent linked: open_matrix, open_table           | open-number-determined                            |
---   | coded and lent linked: replace_gate                      | replace-gate-number-determined                    |
---   | coded and lent linked: point_output                      | point-output-number-determined                    |
---   | coded and lent linked: change_entry                      | change-entry-number-determined                    |
---   | coded and lent linked: set_limits                        | set-limits-number-determined                      |
---   | coded and lent linked: report, store                     | report-number-determined, store-number-determined |
+--   | bench, lent, coded and lent linked:                      |                                                   |
+--   |   open_matrix, open_table                                | open-determined                                   |
+--   |   replace_gate                                           | replace-gate-determined                           |
+--   |   point_output                                           | point-output-determined                           |
+--   |   change_entry                                           | change-entry-determined                           |
+--   |   set_limits                                             | set-limits-determined                             |
+--   |   report, store                                          | report-determined, store-determined               |
+--   | text put, put_labelled, put_numbered, put_numbers,       |                                                   |
+--   |   put_hex, put_unhex                                     | put-determined                                    |
+--   | text next_word, to_front                                 | next-word-determined, to-front-determined         |
+--   | listing put_counts, put_lines, put_refused               | put-determined                                    |
+--   | script call_in                                           | call-in-determined                                |
+--   | talk answer_line                                         | answer-line-determined                            |
+-- Those of the bench are for answers given in any view: as they are (`asTheyAre`) by bench and lent, as numbers (`asNumbers`) by coded and linked.
 use mathlib.Core.Path.{_≡_, sym, ap, _∙_}
 use mathlib.Core.Bool.{Bool}
 use mathlib.Core.List.{List}
-use Prim.Native.Nat.{ℕ}
+use Prim.Native.Nat.{ℕ, _-_, min}
+use lib.ListN.{length}
 use Rattle.circuit.specs.declared.Circuit.{Circuit}
-use Rattle.circuit.specs.declared.Answer.{Answer}
 use Rattle.circuit.specs.declared.Writing.{Writing}
 use Rattle.circuit.specs.Writing.{Wrote, Restored}
 use Rattle.circuit.proofs.Back as writing
 use Rattle.distance.specs.Base.{Line}
-use Rattle.distance.specs.Table.{Stepped, Filled}
+use Rattle.distance.specs.Table.{TakenIn, Filled}
 use Rattle.distance.proofs.Unique as distances
 use Rattle.builder.specs.Call.{Builds, BuildsNumbered}
 use Rattle.builder.proofs.Promise as building
 use Rattle.bench.specs.declared.Bench.{Bench}
-use Rattle.bench.specs.declared.Edit.{Edit}
-use Rattle.bench.specs.declared.Edited.{Edited}
-use Rattle.bench.specs.declared.Opened.{Opened}
-use Rattle.bench.specs.declared.Reported.{Reported}
 use Rattle.bench.specs.Target.{Target}
 use Rattle.bench.specs.State.{Limits, Present}
 use Rattle.bench.specs.Held.{emptyBench, Stands}
-use Rattle.bench.specs.Calls.{OpenPromise, GatePromise, OutputPromise, EntryPromise, LimitsPromise, ReportPromise, StorePromise}
+use Rattle.bench.specs.Calls.{View, OpenGiven, GateGiven, OutputGiven, EntryGiven, LimitsGiven, ReportGiven, StoreGiven}
 use Rattle.bench.specs.Run.{Call, presentAfter, Runs}
 use Rattle.bench.proofs.RunLaws.{after-calls}
 use Rattle.bench.proofs.Unique as benches
-use Rattle.coded.specs.declared.EditNumbers.{EditNumbers}
-use Rattle.coded.specs.declared.ReportNumbers.{ReportNumbers}
-use Rattle.coded.specs.Coded.{OpenCode, GateCode, OutputCode, EntryCode, LimitsCode, ReportCodePromise, StoreCode}
-use Rattle.coded.proofs.Unique as codes
+use Rattle.text.specs.declared.Word.{Word}
+use Rattle.text.specs.Places.{NextWord}
+use Rattle.text.specs.Putting.{PutFree, fronted}
+use Rattle.text.proofs.Unique as texts
+use Rattle.script.specs.declared.Call.{Call as LineCall}
+use Rattle.script.specs.Order.{Order}
+use Rattle.script.specs.Placed.{Means}
+use Rattle.script.proofs.Unique as lines
+use Rattle.talk.specs.declared.Told.{Told}
+use Rattle.talk.specs.Talk.{Answers}
+use Rattle.talk.proofs.Unique as talking
 
 -- a promise that says what the result equals
 pub determined : {A : Type 0} {r s x : A} → r ≡ x → s ≡ x → r ≡ s
@@ -71,7 +77,7 @@ pub restore-determined : (only : Bool) (bytes room : List ℕ) (r s : ℕ) (out 
     → (r ≡ s) × (out ≡ last)
 restore-determined only bytes room r s out last p q = (determined (p .answer) (q .answer), determined (p .bytes) (q .bytes))
 
-pub take-in-determined : (h r s : List ℕ) (m c end : ℕ) → Stepped h r m c end → Stepped h s m c end → r ≡ s
+pub take-in-determined : (h r s : List ℕ) (m c end : ℕ) → TakenIn h r m c end → TakenIn h s m c end → r ≡ s
 take-in-determined = distances.take-in-unique
 
 pub fill-determined : (r s : List ℕ) (ls : List Line) (sizes : ℕ) → Filled r ls sizes → Filled s ls sizes → r ≡ s
@@ -85,64 +91,60 @@ pub build-number-determined : (n : ℕ) (ts : List ℕ) (D : ℕ) (room : List �
     → BuildsNumbered n ts D room s last → (r ≡ s) × (out ≡ last)
 build-number-determined = building.numbered-unique
 
--- ---- the calls, on a bench that calls yield: by value, where the bench is given back beside the answer, and lent, where it is changed in place
+-- ---- text, listing and script
 
-module _ {b : Bench} {calls : List Call} (run : Runs emptyBench calls b) where
-  abbrev now : Present
-  now = presentAfter calls
+pub put-determined : {before out last : List ℕ} {at size r s : ℕ} {bytes : List ℕ} → PutFree before at size bytes out r → PutFree before at size bytes last s
+    → (r ≡ s) × (out ≡ last)
+put-determined = texts.put-free-unique
 
-  stands : Stands b now
-  stands = after-calls run
+pub next-word-determined : (line : List ℕ) (at : ℕ) (r s : Word) → NextWord line at (r .from) (r .to) → NextWord line at (s .from) (s .to) → r ≡ s
+next-word-determined line at r s p q = let e = texts.next-unique p q in λ i. record { from = e .0 i; to = e .1 i }
 
-  edits : {r s : Edit} {c d : Bench} → _≡_ {A = Edited} (record { bench = c; edit = r }) (record { bench = d; edit = s }) → (r ≡ s) × (c ≡ d)
-  edits e = (ap (λ (x : Edited). x .edit) e, ap (λ (x : Edited). x .bench) e)
+pub to-front-determined : (room : List ℕ) (from to r s : ℕ) (out last : List ℕ) → (r ≡ min to (length room) - from) × (out ≡ fronted room from r)
+    → (s ≡ min to (length room) - from) × (last ≡ fronted room from s) → (r ≡ s) × (out ≡ last)
+to-front-determined room from to r s out last p q =
+    let e = determined (p .0) (q .0) in
+    (e, p .1 ∙ ap (fronted room from) e ∙ sym (q .1))
 
-  pub open-determined : (bytes : List ℕ) (t : Target) (l : Limits) (r s : Answer) (c d : Bench) → OpenPromise b bytes t l r c → OpenPromise b bytes t l s d → (r ≡ s) × (c ≡ d)
-  open-determined bytes t l r s c d u v =
-      let e = benches.open-unique b now stands bytes t l (record { bench = c; answer = r }) (record { bench = d; answer = s }) u v in
-      (ap (λ (x : Opened). x .answer) e, ap (λ (x : Opened). x .bench) e)
+pub call-in-determined : {line : List ℕ} {r s : LineCall} {o : Order} → Means line r o → Means line s o → r ≡ s
+call-in-determined = lines.call-unique
 
-  pub replace-gate-determined : (k kind x y : ℕ) (r s : Edit) (c d : Bench) → GatePromise b k kind x y r c → GatePromise b k kind x y s d → (r ≡ s) × (c ≡ d)
-  replace-gate-determined k kind x y r s c d u v =
-      edits (benches.replace-gate-unique b now stands k kind x y (record { bench = c; edit = r }) (record { bench = d; edit = s }) u v)
+-- ---- the calls: by value, where the bench is given back beside the answer, and lent, where it is changed in place
 
-  pub point-output-determined : (j line : ℕ) (r s : Edit) (c d : Bench) → OutputPromise b j line r c → OutputPromise b j line s d → (r ≡ s) × (c ≡ d)
-  point-output-determined j line r s c d u v =
-      edits (benches.point-output-unique b now stands j line (record { bench = c; edit = r }) (record { bench = d; edit = s }) u v)
+module _ (v : View) where
+  -- an open on any bench, whatever it holds
+  pub open-determined : (b : Bench) (bytes : List ℕ) (t : Target) (l : Limits) (r s : v .Answers) (c d : Bench)
+      → OpenGiven v b bytes t l r c → OpenGiven v b bytes t l s d → (r ≡ s) × (c ≡ d)
+  open-determined = benches.open-unique v
 
-  pub change-entry-determined : (i value : ℕ) (r s : Edit) (c d : Bench) → EntryPromise b i value r c → EntryPromise b i value s d → (r ≡ s) × (c ≡ d)
-  change-entry-determined i value r s c d u v =
-      edits (benches.change-entry-unique b now stands i value (record { bench = c; edit = r }) (record { bench = d; edit = s }) u v)
+  -- the others on a bench that calls yield
+  module _ {b : Bench} {calls : List Call} (run : Runs emptyBench calls b) where
+    abbrev now : Present
+    now = presentAfter calls
 
-  pub set-limits-determined : (l : Limits) (r s : Edit) (c d : Bench) → LimitsPromise b l r c → LimitsPromise b l s d → (r ≡ s) × (c ≡ d)
-  set-limits-determined l r s c d u v =
-      edits (benches.set-limits-unique b now stands l (record { bench = c; edit = r }) (record { bench = d; edit = s }) u v)
+    stands : Stands b now
+    stands = after-calls run
 
-  pub report-determined : (r s : Reported) → ReportPromise b r → ReportPromise b s → r ≡ s
-  report-determined = benches.report-unique b now stands
+    pub replace-gate-determined : (k kind x y : ℕ) (r s : v .Edits) (c d : Bench) → GateGiven v b k kind x y r c → GateGiven v b k kind x y s d → (r ≡ s) × (c ≡ d)
+    replace-gate-determined = benches.replace-gate-unique v b now stands
 
-  pub store-determined : (room : List ℕ) (r s : Writing) (out last : List ℕ) → StorePromise b room r out → StorePromise b room s last → (r ≡ s) × (out ≡ last)
-  store-determined = benches.store-unique b now stands
+    pub point-output-determined : (j line : ℕ) (r s : v .Edits) (c d : Bench) → OutputGiven v b j line r c → OutputGiven v b j line s d → (r ≡ s) × (c ≡ d)
+    point-output-determined = benches.point-output-unique v b now stands
 
-  -- with numbers for answers
+    pub change-entry-determined : (i value : ℕ) (r s : v .Edits) (c d : Bench) → EntryGiven v b i value r c → EntryGiven v b i value s d → (r ≡ s) × (c ≡ d)
+    change-entry-determined = benches.change-entry-unique v b now stands
 
-  pub open-number-determined : (bytes : List ℕ) (t : Target) (l : Limits) (r s : ℕ) (c d : Bench) → OpenCode b bytes t l r c → OpenCode b bytes t l s d → (r ≡ s) × (c ≡ d)
-  open-number-determined = codes.open-unique b now stands
+    pub set-limits-determined : (l : Limits) (r s : v .Edits) (c d : Bench) → LimitsGiven v b l r c → LimitsGiven v b l s d → (r ≡ s) × (c ≡ d)
+    set-limits-determined = benches.set-limits-unique v b now stands
 
-  pub replace-gate-number-determined : (k kind x y : ℕ) (r s : EditNumbers) (c d : Bench) → GateCode b k kind x y r c → GateCode b k kind x y s d → (r ≡ s) × (c ≡ d)
-  replace-gate-number-determined = codes.gate-unique b now stands
+    pub report-determined : (r s : v .Reports) → ReportGiven v b r → ReportGiven v b s → r ≡ s
+    report-determined = benches.report-unique v b now stands
 
-  pub point-output-number-determined : (j line : ℕ) (r s : EditNumbers) (c d : Bench) → OutputCode b j line r c → OutputCode b j line s d → (r ≡ s) × (c ≡ d)
-  point-output-number-determined = codes.output-unique b now stands
+    pub store-determined : (room : List ℕ) (r s : v .Writings) (out last : List ℕ) → StoreGiven v b room r out → StoreGiven v b room s last → (r ≡ s) × (out ≡ last)
+    store-determined = benches.store-unique v b now stands
 
-  pub change-entry-number-determined : (i value : ℕ) (r s : EditNumbers) (c d : Bench) → EntryCode b i value r c → EntryCode b i value s d → (r ≡ s) × (c ≡ d)
-  change-entry-number-determined = codes.entry-unique b now stands
+-- ---- a line of the call language, on a bench that calls yield
 
-  pub set-limits-number-determined : (l : Limits) (r s : EditNumbers) (c d : Bench) → LimitsCode b l r c → LimitsCode b l s d → (r ≡ s) × (c ≡ d)
-  set-limits-number-determined = codes.limits-unique b now stands
-
-  pub report-number-determined : (r s : ReportNumbers) → ReportCodePromise b r → ReportCodePromise b s → r ≡ s
-  report-number-determined = codes.report-unique b now stands
-
-  pub store-number-determined : (room : List ℕ) (r s : ℕ) (out last : List ℕ) → StoreCode b room r out → StoreCode b room s last → (r ≡ s) × (out ≡ last)
-  store-number-determined = codes.store-unique b now stands
+pub answer-line-determined : {b : Bench} {calls : List Call} → Runs emptyBench calls b → (o : Order) (room : List ℕ) (r s : Told) (out last : List ℕ)
+    → Answers b o room out r → Answers b o room last s → (r ≡ s) × (out ≡ last)
+answer-line-determined {b} {calls} run o room r s out last = talking.unique b (presentAfter calls) (after-calls run) o room out last r s

@@ -9,9 +9,11 @@ use Rattle.circuit.specs.Gate.{countOf, tallyOf}
 use Rattle.circuit.specs.Lines.{reads, lines, upto, depthOf}
 use Rattle.circuit.specs.Stored.{stored, records, listingIn}
 use Rattle.circuit.specs.Reading.{refusalNo, shaped, secondFits, gateAnswer, outAnswer, gateRecord, outRecord, answers, bodyAnswer, readAnswer}
-use Rattle.distance.specs.Base.{Line, gate}
-use Rattle.distance.specs.Base as base
+use Rattle.distance.specs.declared.Answer.{Answer as Distance}
+use Rattle.distance.specs.declared.Answer.the-variants.{Gates, Never}
+use Rattle.distance.specs.Base.{Line, xor, baseOf}
 use Rattle.distance.specs.Distance.{distance, gates, never}
+use Rattle.distance.specs.Query.{lookAt, answerOf}
 use Rattle.distance.proofs.Examples as distances
 use Rattle.builder.specs.Rule.{xorGate}
 use Rattle.builder.specs.Call.{built, refusal}
@@ -33,8 +35,18 @@ abbrev rows : List ℕ
 rows = 3 ∷ 7 ∷ 6 ∷ []
 
 -- K6 and K7: base masks 1, 2, 4, 8 and one more, at depths 0, 0, 0, 0, 2
+abbrev masksWith : ℕ → List ℕ
+masksWith mask = 1 ∷ 2 ∷ 4 ∷ 8 ∷ mask ∷ []
+
+abbrev depths : List ℕ
+depths = 0 ∷ 0 ∷ 0 ∷ 0 ∷ 2 ∷ []
+
 abbrev baseWith : ℕ → List Line
-baseWith mask = base.lines (1 ∷ 2 ∷ 4 ∷ 8 ∷ mask ∷ []) (0 ∷ 0 ∷ 0 ∷ 0 ∷ 2 ∷ [])
+baseWith mask = baseOf (masksWith mask) depths
+
+-- the same as a query, with n = 4
+abbrev asked : ℕ → ℕ → ℕ → Distance
+asked mask target D = answerOf 4 (masksWith mask) depths target D
 
 -- K8: n = 2, table 0 0 0 1, one AND of lines 0 and 1, output 2, limits 1 1 1
 abbrev calls8 : List Call
@@ -73,20 +85,22 @@ pub record Examples : Type 0 where
   pub K1 : stored (built 3 rows 2)
       ≡ 0x53 ∷ 0x48 ∷ 3 ∷ 3 ∷ 3 ∷ 0x47 ∷ 0x54 ∷ 0 ∷ 0 ∷ 1 ∷ 0x47 ∷ 0x54 ∷ 0 ∷ 2 ∷ 3 ∷ 0x47 ∷ 0x54 ∷ 0 ∷ 1 ∷ 2 ∷ 0x4F ∷ 0x50 ∷ 3 ∷ 0x4F ∷ 0x50 ∷ 4 ∷ 0x4F ∷ 0x50 ∷ 5 ∷ []
   -- K2: the same, D=3: the third gate is (0,4), depth 3
-  pub K2 : (built 3 rows 3 ≡ record { inputs = 3; gates = xorGate (gate 0 1) ∷ xorGate (gate 2 3) ∷ xorGate (gate 0 4) ∷ []; outs = 3 ∷ 4 ∷ 5 ∷ [] })
-      × (depthOf (record { inputs = 3; gates = xorGate (gate 0 1) ∷ xorGate (gate 2 3) ∷ xorGate (gate 0 4) ∷ []; outs = 3 ∷ 4 ∷ 5 ∷ [] }) ≡ 3)
+  pub K2 : (built 3 rows 3 ≡ record { inputs = 3; gates = xorGate (xor 0 1) ∷ xorGate (xor 2 3) ∷ xorGate (xor 0 4) ∷ []; outs = 3 ∷ 4 ∷ 5 ∷ [] })
+      × (depthOf (record { inputs = 3; gates = xorGate (xor 0 1) ∷ xorGate (xor 2 3) ∷ xorGate (xor 0 4) ∷ []; outs = 3 ∷ 4 ∷ 5 ∷ [] }) ≡ 3)
   -- K3: the same, D=1: refused 10
   pub K3 : (refusal 3 rows 1 ≡ Refused TooShallow) × (refusalNo TooShallow ≡ 10)
   -- K4: n=4, rows 7, 11, D=2: gates (0,1), (2,4), (3,4), outputs 5, 6
-  pub K4 : built 4 (7 ∷ 11 ∷ []) 2 ≡ record { inputs = 4; gates = xorGate (gate 0 1) ∷ xorGate (gate 2 4) ∷ xorGate (gate 3 4) ∷ []; outs = 5 ∷ 6 ∷ [] }
+  pub K4 : built 4 (7 ∷ 11 ∷ []) 2 ≡ record { inputs = 4; gates = xorGate (xor 0 1) ∷ xorGate (xor 2 4) ∷ xorGate (xor 3 4) ∷ []; outs = 5 ∷ 6 ∷ [] }
   -- K5: n=1, row 1, D=0
   pub K5 : stored (built 1 (1 ∷ []) 0) ≡ 0x53 ∷ 0x48 ∷ 1 ∷ 1 ∷ 0 ∷ 0x4F ∷ 0x50 ∷ 0 ∷ []
   -- none of K1, K2, K4 and K5 is refused
   pub built-all : (refusal 3 rows 2 ≡ Done) × (refusal 3 rows 3 ≡ Done) × (refusal 4 (7 ∷ 11 ∷ []) 2 ≡ Done) × (refusal 1 (1 ∷ []) 0 ≡ Done)
-  -- K6: n=4, masks 1, 2, 4, 8, 7, target 15: D=3 gives 1, D=2 gives 3, D=1 none
+  -- K6: n=4, masks 1, 2, 4, 8, 7, target 15: D=3 gives 1, D=2 gives 3, D=1 none; by the definition, and as a query
   pub K6 : (distance 4 (baseWith 7) 15 3 ≡ gates 1) × (distance 4 (baseWith 7) 15 2 ≡ gates 3) × (distance 4 (baseWith 7) 15 1 ≡ never)
-  -- K7: masks 1, 2, 4, 8, 15, target 7: D=3 gives 1, D=2 gives 2, D=1 none
+  pub K6-asked : (asked 7 15 3 ≡ Gates 1) × (asked 7 15 2 ≡ Gates 3) × (asked 7 15 1 ≡ Never)
+  -- K7: masks 1, 2, 4, 8, 15, target 7: D=3 gives 1, D=2 gives 2, D=1 none; the same
   pub K7 : (distance 4 (baseWith 15) 7 3 ≡ gates 1) × (distance 4 (baseWith 15) 7 2 ≡ gates 2) × (distance 4 (baseWith 15) 7 1 ≡ never)
+  pub K7-asked : (asked 15 7 3 ≡ Gates 1) × (asked 15 7 2 ≡ Gates 2) × (asked 15 7 1 ≡ Never)
   -- K8: pass; depth 1, AND depth 1
   pub K8 : reported (presentAfter calls8) ≡ reporting 1 0 1 0 1 1 Pass
   -- K9: wrong at input 0, output 0; reworked line 2 only
@@ -99,9 +113,9 @@ pub record Examples : Type 0 where
   -- K12: wrong at input 1, output 0
   pub K12 : reported (presentAfter calls12) ≡ reporting 2 2 0 0 2 0 (wrong 1 0)
 
--- K1 to K5 are computed where the rule is open, K6 and K7 where the distance is; the rest here.
+-- K1 to K5 are computed where the rule is open, the distances of K6 and K7 where the distance is; the rest here.
 pub all-examples : Examples
-unfolding countOf tallyOf reads lines upto records listingIn shaped secondFits gateAnswer outAnswer gateRecord outRecord answers bodyAnswer readAnswer rowFits entryFits allOf targetFits least verdictOf reportOf openAnswer gateEditAnswer outputEditAnswer entryEditAnswer placesFrom sizeOf
+unfolding countOf tallyOf reads lines upto records listingIn shaped secondFits gateAnswer outAnswer gateRecord outRecord answers bodyAnswer readAnswer rowFits entryFits allOf targetFits lookAt answerOf least verdictOf reportOf openAnswer gateEditAnswer outputEditAnswer entryEditAnswer placesFrom sizeOf
 all-examples =
     record {
       K1 = building.k1;
@@ -111,7 +125,9 @@ all-examples =
       K5 = building.k5;
       built-all = building.sound;
       K6 = distances.K6;
+      K6-asked = (refl, refl, refl);
       K7 = distances.K7;
+      K7-asked = (refl, refl, refl);
       K8 = refl;
       K9 = (refl, refl, refl, refl);
       K10 = (refl, refl);

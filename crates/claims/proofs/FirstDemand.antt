@@ -27,10 +27,9 @@ use Rattle.distance.specs.declared.Refusal.the-variants.{Inputs, Lists, Mask, D
 use Rattle.distance.specs.declared.Looked.{Looked}
 use Rattle.distance.specs.declared.Looked.the-variants.{Sound as Looks, Unsound}
 use Rattle.distance.specs.declared.Answer.{Answer as Distance}
-use Rattle.distance.specs.Base.{lines, Line}
+use Rattle.distance.specs.Base.{baseOf, Line}
 use Rattle.distance.specs.Distance.{Gap, gates, never, distance, can, gapFrom}
-use Rattle.distance.specs.Query as query
-use Rattle.distance.specs.Query.{lookAt, answered, answerOf}
+use Rattle.distance.specs.Query.{lookAt, answered, answerOf, distanceNo, distanceCode, queryRefusalNo, whereSound}
 use Rattle.distance.proofs.Refuse.{fit}
 use Rattle.builder.specs.Call.{built, refusal, buildAnswer, Builds, BuildsNumbered}
 use Rattle.builder.proofs.Refusals.{ranged}
@@ -39,11 +38,10 @@ use Rattle.builder.proofs.Promise.{built-few, built-outs}
 use Rattle.bench.specs.declared.Bench.{Bench}
 use Rattle.bench.specs.declared.Edit.{Edit}
 use Rattle.bench.specs.declared.Reported.{Reported}
-use Rattle.bench.specs.declared.Reported.the-variants.{Given, NotGiven}
 use Rattle.bench.specs.Target.{Target, isMatrix}
 use Rattle.bench.specs.State.{State, Present, nothing, present, Limits, SoundPresent}
-use Rattle.bench.specs.Calls.{after, openAnswer, openState, gateEditAnswer, gateEdited, outputEditAnswer, outputEdited, entryEditAnswer, entryEdited, limitsAnswer, reported, storeAnswer, gateEdit, editBy, readersOf, noRework, storedOf, OpenPromise, GatePromise, OutputPromise, EntryPromise, LimitsPromise, ReportPromise, StorePromise}
-use Rattle.bench.specs.Run.{Call, afterCall, presentAfter, Step, Runs}
+use Rattle.bench.specs.Calls.{after, openAnswer, openState, gateEditAnswer, gateEdited, outputEditAnswer, outputEdited, entryEditAnswer, entryEdited, limitsAnswer, storeAnswer, gateEdit, editBy, readersOf, noRework, storedOf, View, benchAfterOpen, OpenPromise, GatePromise, OutputPromise, EntryPromise, LimitsPromise, ReportPromise, StorePromise}
+use Rattle.bench.specs.Run.{Call, afterCall, presentAfter, StepGiven, Runs}
 use Rattle.bench.specs.Run.Call.{opening, replacing, pointing, changing, limiting, reporting, storing}
 use Rattle.bench.specs.Held.{emptyBench, benchOf, Stands}
 use Rattle.bench.proofs.Standing.{circuit-fits}
@@ -53,7 +51,7 @@ use Rattle.coded.specs.declared.EditNumbers.{EditNumbers}
 use Rattle.coded.specs.declared.ReportNumbers.{ReportNumbers}
 use Rattle.coded.specs.Coded.{reportedCode, OpenCode, GateCode, OutputCode, EntryCode, LimitsCode, ReportCodePromise, StoreCode}
 use Rattle.claims.proofs.Causes.{first, accepted, GivenExactly, none-left, chain}
-use Rattle.claims.proofs.Tables.{OutOfRange, readTable, openTable, replaceTable, pointTable, changeTable, openOnly, storeTable, buildTable, distanceTable, distanceNo, reportedNo, callNo, callTable}
+use Rattle.claims.proofs.Tables.{OutOfRange, readTable, openTable, replaceTable, pointTable, changeTable, openOnly, storeTable, buildTable, distanceTable, callNo, callTable}
 use Rattle.claims.proofs.Following.{range-law, done-last, read-law, open-law, replace-law, point-law, change-law, limits-law, report-law, room-law, store-law, room-then, room-last, build-law, distance-law}
 
 -- ---- The numbers given back: 1 to 13, one for each refusal.
@@ -85,11 +83,11 @@ numbered NothingOpen = refl
 pub one-each : (v w : Refusal) → refusalNo v ≡ refusalNo w → v ≡ w
 one-each v w e = sym (numbered v) ∙ ap (λ (k : ℕ). getD refusals (k - 1) Shape) e ∙ numbered w
 
-not-zero : (w : Refusal) → refusalNo w ≡ 0 → ⊥
+pub not-zero : (w : Refusal) → refusalNo w ≡ 0 → ⊥
 not-zero w z = let e : w ≡ Shape = sym (numbered w) ∙ ap (λ (k : ℕ). getD refusals (k - 1) Shape) z in omega (arith, z, ap refusalNo e)
 
 -- and those of a distance query are numbers of this table: 1, 2, 8 and 9.
-pub query-numbers : (query.refusalNo Inputs ≡ refusalNo Shape) × (query.refusalNo Lists ≡ refusalNo Length) × (query.refusalNo Mask ≡ refusalNo BadTarget) × (query.refusalNo Depth ≡ refusalNo TooDeep)
+pub query-numbers : (queryRefusalNo Inputs ≡ refusalNo Shape) × (queryRefusalNo Lists ≡ refusalNo Length) × (queryRefusalNo Mask ≡ refusalNo BadTarget) × (queryRefusalNo Depth ≡ refusalNo TooDeep)
 query-numbers = (refl, refl, refl, refl)
 
 -- ---- All calls on a bench
@@ -220,7 +218,7 @@ pub distance-numbers : (n : ℕ) (ms ds : List ℕ) (t D : ℕ) (r : Distance) �
 distance-numbers n ms ds t D r e = subst (λ (a : Distance). GivenExactly (distanceNo a) (distanceTable n ms ds t D)) (sym e) (distance-law n ms ds t D)
 
 -- the query as one number: 100 and the refusal's, and what is not refused is below that
-pub distance-numbered : (n : ℕ) (ms ds : List ℕ) (t D r : ℕ) → r ≡ query.answerNo (answerOf n ms ds t D) → GivenExactly (r - 100) (distanceTable n ms ds t D)
+pub distance-numbered : (n : ℕ) (ms ds : List ℕ) (t D r : ℕ) → r ≡ distanceCode (answerOf n ms ds t D) → GivenExactly (r - 100) (distanceTable n ms ds t D)
 unfolding answerOf
 distance-numbered n ms ds t D r e =
     subst (λ (number : ℕ). GivenExactly number (distanceTable n ms ds t D)) (sym (ap (λ (k : ℕ). k - 100) e ∙ code (lookAt n ms ds t D) refl)) (distance-law n ms ds t D)
@@ -233,16 +231,36 @@ distance-numbered n ms ds t D r e =
         by true e rest = let z : g ≡ k = cc in omega arith
         by false e rest = omega (arith, rest e)
 
-    few : n < 9 → (x : Gap) → distance n (lines ms ds) t D ≡ x → query.answerNo (answered x) - 100 ≡ distanceNo (answered x)
-    few h (gates g) e = omega (arith, below n 0 t (2 ^ D) g (lines ms ds) e)
+    few : n < 9 → (x : Gap) → distance n (baseOf ms ds) t D ≡ x → distanceCode (answered x) - 100 ≡ distanceNo (answered x)
+    few h (gates g) e = omega (arith, below n 0 t (2 ^ D) g (baseOf ms ds) e)
     few h never e = refl
 
     code : (x : Looked) → lookAt n ms ds t D ≡ x
-        → query.answerNo (query.unless x (answered (distance n (lines ms ds) t D))) - 100 ≡ distanceNo (query.unless x (answered (distance n (lines ms ds) t D)))
-    code Looks e = few (fit n ms ds t D e .few-inputs) (distance n (lines ms ds) t D) refl
+        → distanceCode (whereSound x (answered (distance n (baseOf ms ds) t D))) - 100 ≡ distanceNo (whereSound x (answered (distance n (baseOf ms ds) t D)))
+    code Looks e = few (fit n ms ds t D e .few-inputs) (distance n (baseOf ms ds) t D) refl
     code (Unsound w) e = omega arith
 
--- ==== The calls on a bench that calls yield, from one with nothing open. `now` is what is present.
+-- ==== Open, on any bench, whatever it holds: as reading, last the target (8). A refused open keeps the earlier bench.
+
+module _ (b : Bench) (bytes : List ℕ) (t : Target) (l : Limits) (next : Bench) where
+  open-kept : (a : Answer) → (answerNo a ≡ 0 → ⊥) → benchAfterOpen a (openState bytes t l) b ≡ b
+  open-kept Done h = absurd (h refl)
+  open-kept (Refused w) h = refl
+
+  pub open-numbers : (answer : Answer) → OpenPromise b bytes t l answer next → GivenExactly (answerNo answer) (openTable bytes t)
+  open-numbers answer h = subst (λ (a : Answer). GivenExactly (answerNo a) (openTable bytes t)) (sym (h .0)) (open-law bytes t)
+
+  pub open-refused : (w : Refusal) → OpenPromise b bytes t l (Refused w) next → next ≡ b
+  open-refused w h = h .1 ∙ open-kept (openAnswer bytes t) (λ z. not-zero w (ap answerNo (h .0) ∙ z))
+
+  -- the same where the answer is a number
+  pub open-numbered : (number : ℕ) → OpenCode b bytes t l number next → GivenExactly number (openTable bytes t) × ((number ≡ 0 → ⊥) → next ≡ b)
+  open-numbered number h = (
+    subst (λ (n : ℕ). GivenExactly n (openTable bytes t)) (sym (h .0)) (open-law bytes t),
+    λ some. h .1 ∙ open-kept (openAnswer bytes t) (λ z. some (h .0 ∙ z)),
+  )
+
+-- ==== The other calls, on a bench that calls yield, from one with nothing open. `now` is what is present.
 
 pub gate-answer : (p : Present) (k kind a b : ℕ) → gateEdit p k kind a b .answer ≡ gateEditAnswer p k kind a b
 unfolding gateEditAnswer
@@ -272,17 +290,9 @@ module _ {b : Bench} {calls : List Call} (run : Runs emptyBench calls b) where
   kept : (call : Call) {number : ℕ} {next : Bench} → (number ≡ 0 → ⊥) → number ≡ callNo now call → next ≡ benchOf (afterCall now call) → next ≡ b
   kept call some e h = h ∙ ap benchOf (refused-changes-nothing now call (λ z. some (e ∙ z))) ∙ sym (stands .is)
 
-  -- Every call gets an answer: for each there is a bench, with an answer, that its promise allows.
-  pub every-call-answers : (call : Call) → Callable call → Step b call (benchOf (afterCall now call))
-  every-call-answers = step-exists b now stands
-
-  -- Open: as reading, last the target (8). A refused open keeps the earlier bench.
-  module _ (bytes : List ℕ) (t : Target) (l : Limits) (next : Bench) where
-    pub open-numbers : (answer : Answer) → OpenPromise b bytes t l answer next → GivenExactly (answerNo answer) (openTable bytes t)
-    open-numbers answer h = given (opening bytes t l) (ap answerNo (h now stands .0))
-
-    pub open-refused : (w : Refusal) → OpenPromise b bytes t l (Refused w) next → next ≡ b
-    open-refused w h = kept (opening bytes t l) (not-zero w) (ap answerNo (h now stands .0)) (h now stands .1)
+  -- Every call gets an answer, as it is or as numbers: for each there is a bench, with an answer, that its promise allows.
+  pub every-call-answers : (v : View) (call : Call) → Callable call → StepGiven v b call (benchOf (afterCall now call))
+  every-call-answers v = step-exists v b now stands
 
   -- Edits: 13, 12, then 4, 5, 7 for a gate, 6 for an output, 8 for an entry; limits 13. A refused one leaves the bench, and gives its number only: no line is listed.
   module _ (k kind x y : ℕ) (edit : Edit) (next : Bench) (h : GatePromise b k kind x y edit next) where
@@ -325,8 +335,8 @@ module _ {b : Bench} {calls : List Call} (run : Runs emptyBench calls b) where
     limits-refused = reworkless (limiting l) edit (limitsAnswer now) next refl (h now stands) .1
 
   -- Report: 13. Store: 13, 11. Neither takes a bench to change; a refused store leaves each byte of the room.
-  pub report-numbers : (r : Reported) → ReportPromise b r → GivenExactly (reportedNo r) (openOnly now)
-  report-numbers r h = given reporting (ap reportedNo (h now stands))
+  pub report-numbers : (r : Reported) → ReportPromise b r → GivenExactly (reportedCode r .refusal) (openOnly now)
+  report-numbers r h = given reporting (ap (λ (z : Reported). reportedCode z .refusal) (h now stands))
 
   module _ (room out : List ℕ) where
     pub store-numbers : (r : Writing) → StorePromise b room r out → GivenExactly (writingNo r) (storeTable now (length room))
@@ -342,9 +352,6 @@ module _ {b : Bench} {calls : List Call} (run : Runs emptyBench calls b) where
   coded : (call : Call) (number : ℕ) (next : Bench) → number ≡ callNo now call → next ≡ benchOf (afterCall now call) → Numbered call number next
   coded call number next e h = (given call e, λ some. kept call some e h)
 
-  pub open-numbered : (bytes : List ℕ) (t : Target) (l : Limits) (number : ℕ) (next : Bench) → OpenCode b bytes t l number next → Numbered (opening bytes t l) number next
-  open-numbered bytes t l number next h = coded (opening bytes t l) number next (h now stands .0) (h now stands .1)
-
   pub replace-numbered : (k kind x y : ℕ) (edit : EditNumbers) (next : Bench) → GateCode b k kind x y edit next → Numbered (replacing k kind x y) (edit .refusal) next
   replace-numbered k kind x y edit next h =
       coded (replacing k kind x y) (edit .refusal) next (ap (λ (e : EditNumbers). e .refusal) (h now stands .0) ∙ ap answerNo (gate-answer now k kind x y)) (h now stands .1)
@@ -359,11 +366,7 @@ module _ {b : Bench} {calls : List Call} (run : Runs emptyBench calls b) where
   limits-numbered l edit next h = coded (limiting l) (edit .refusal) next (ap (λ (e : EditNumbers). e .refusal) (h now stands .0)) (h now stands .1)
 
   pub report-numbered : (r : ReportNumbers) → ReportCodePromise b r → GivenExactly (r .refusal) (openOnly now)
-  report-numbered r h = given reporting (ap (λ (e : ReportNumbers). e .refusal) (h now stands) ∙ reported-no (reported now))
-    where
-      reported-no : (r : Reported) → reportedCode r .refusal ≡ reportedNo r
-      reported-no (Given r) = refl
-      reported-no (NotGiven w) = refl
+  report-numbered r h = given reporting (ap (λ (e : ReportNumbers). e .refusal) (h now stands))
 
   pub store-numbered : (room : List ℕ) (r : ℕ) (out : List ℕ) → StoreCode b room r out → NumberedRoom r (storeTable now (length room)) room out
   unfolding storeAnswer

@@ -22,16 +22,16 @@ use Rattle.circuit.proofs.Records.{records-length}
 use Rattle.distance.specs.declared.Refusal.the-variants.{Inputs, Lists, Mask, Depth}
 use Rattle.distance.specs.declared.Looked.{Looked}
 use Rattle.distance.specs.declared.Looked.the-variants.{Sound as Looks}
-use Rattle.distance.specs.Base.{lines, weight}
+use Rattle.distance.specs.Base.{baseOf, weight}
 use Rattle.distance.specs.Distance.{Gap, gates, never, distance}
-use Rattle.distance.specs.Query as query
-use Rattle.distance.specs.Query.{anyFrom, badLists, badMask, badDepth, refuse, lookAt, answered, answerOf}
+use Rattle.distance.specs.Query.{anyFrom, badLists, badMask, badDepth, refuse, lookAt, answered, answerOf, distanceNo, whereSound}
 use Rattle.builder.specs.Call.{built, badRow, tooHeavy, refusal, buildAnswer}
 use Rattle.bench.specs.Target.{Target, matrix, table, isMatrix, rowFits, entryFits, allOf, targetFits}
 use Rattle.bench.specs.State.{Present, nothing, present}
 use Rattle.bench.specs.Calls.{openAnswer, gateEditAnswer, outputEditAnswer, entryAnswer, entryEditAnswer, limitsAnswer, reported, storeAnswer}
 use Rattle.claims.proofs.Causes.{first, accepted, GivenExactly, Some, none-left, Tells, Fails, fails-as, fails-where-not, not-fails, not-tells, tells-or, tells-lt, tells-le, tells-eq, fails-and, fails-lt, fails-le, tells-some, chain, chain-on}
-use Rattle.claims.proofs.Tables.{OutOfRange, gateTable, BadRow, BrokenTarget, recordsTable, gateRecordTable, outRecordTable, bodyTable, readTable, openTable, replaceTable, pointTable, entryCauses, changeTable, openOnly, storeTable, buildTable, distanceTable, distanceNo, reportedNo}
+use Rattle.coded.specs.Coded.{reportedCode}
+use Rattle.claims.proofs.Tables.{OutOfRange, gateTable, BadRow, BrokenTarget, recordsTable, gateRecordTable, outRecordTable, bodyTable, readTable, openTable, replaceTable, pointTable, entryCauses, changeTable, openOnly, storeTable, buildTable, distanceTable}
 
 pub range-law : (n m g : ℕ) → Fails (shaped n m g) (OutOfRange n m g)
 unfolding shaped
@@ -208,7 +208,7 @@ pub limits-law : (p : Present) → GivenExactly (answerNo (limitsAnswer p)) (ope
 limits-law nothing = λ n. (sym, sym)
 limits-law (present s) = none-left
 
-pub report-law : (p : Present) → GivenExactly (reportedNo (reported p)) (openOnly p)
+pub report-law : (p : Present) → GivenExactly (reportedCode (reported p) .refusal) (openOnly p)
 report-law nothing = λ n. (sym, sym)
 report-law (present s) = none-left
 
@@ -249,8 +249,8 @@ build-law n ts D room =
 pub distance-law : (n : ℕ) (ms ds : List ℕ) (t D : ℕ) → GivenExactly (distanceNo (answerOf n ms ds t D)) (distanceTable n ms ds t D)
 unfolding answerOf lookAt
 distance-law n ms ds t D =
-    let r = answered (distance n (lines ms ds) t D) in
-    let ask : Looked → ℕ = λ x. distanceNo (query.unless x r) in
+    let r = answered (distance n (baseOf ms ds) t D) in
+    let ask : Looked → ℕ = λ x. distanceNo (whereSound x r) in
     let e = tells-or (any-law 16 ds) (tells-lt 15 D) in
     let c = tells-or (tells-or (any-law (2 ^ n) ms) (tells-eq t 0)) (tells-le (2 ^ n) t) in
     let b = tells-or (tells-or (not-tells (fails-where-not (tells-eq (length ms) (length ds)))) (tells-eq (length ms) 0)) (tells-lt 256 (length ms)) in
@@ -259,7 +259,7 @@ distance-law n ms ds t D =
     (chain-on (λ x. ask (refuse x Lists (refuse (badMask n ms t) Mask (refuse (badDepth ds D) Depth Looks)))) b
     (chain-on (λ x. ask (refuse x Mask (refuse (badDepth ds D) Depth Looks))) c
     (chain-on (λ x. ask (refuse x Depth Looks)) e
-    (subst (λ (no : ℕ). GivenExactly no accepted) (sym (none-refused (distance n (lines ms ds) t D))) none-left))))
+    (subst (λ (no : ℕ). GivenExactly no accepted) (sym (none-refused (distance n (baseOf ms ds) t D))) none-left))))
   where
     any-law : (b : ℕ) (xs : List ℕ) → Tells (anyFrom b xs) (Some (λ (x : ℕ). b ≤ x) xs)
     any-law b xs = subst (λ (t : Bool). Tells t (Some (λ (x : ℕ). b ≤ x) xs)) (same xs) (tells-some (tells-le b) xs)

@@ -2,6 +2,8 @@
 pub mod FirstDemand
 pub mod SecondDemand
 pub mod ThirdDemand
+pub mod InNumbers
+pub mod AtDesk
 pub mod Examples
 pub mod Determined
 pub mod ToOutputs

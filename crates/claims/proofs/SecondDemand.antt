@@ -17,9 +17,8 @@ use Rattle.circuit.specs.declared.Answer.{Answer}
 use Rattle.circuit.specs.declared.Answer.the-variants.{Done, Refused}
 use Rattle.circuit.specs.declared.Writing.{Writing}
 use Rattle.circuit.specs.declared.Writing.the-variants.{Written, NotWritten}
-use Rattle.circuit.specs.Gate.{bit}
-use Rattle.circuit.specs.Lines as circuits
-use Rattle.circuit.specs.Lines.{Listing, gateAt, greatest, andStep, depthOf, andDepthOf, outputOn, anyOf}
+use Rattle.circuit.specs.Gate.{bit, parity}
+use Rattle.circuit.specs.Lines.{Listing, gateAt, greatest, andStep, depthOf, andDepthOf, outputOn, anyOf, lines}
 use Rattle.circuit.specs.Stored.{stored}
 use Rattle.circuit.specs.Reading.{shaped, readStored}
 use Rattle.circuit.specs.Reading.Outcome.{found}
@@ -31,14 +30,13 @@ use Rattle.distance.specs.declared.Looked.{Looked}
 use Rattle.distance.specs.declared.Looked.the-variants.{Sound as Looks, Unsound}
 use Rattle.distance.specs.declared.Answer.{Answer as Distance}
 use Rattle.distance.specs.declared.Answer.the-variants.{Gates, Never}
-use Rattle.distance.specs.Base.{Line, Gate, lines, inputs, run, weight, Small, Program, Fewest, SetOf, Smallest}
+use Rattle.distance.specs.Base.{Line, Xor, baseOf, inputs, run, weight, Small, Program, Fewest, SetOf, Smallest}
 use Rattle.distance.specs.Distance.{gates, never, distance}
-use Rattle.distance.specs.Query as query
-use Rattle.distance.specs.Query.{lookAt, answered, answerOf}
+use Rattle.distance.specs.Query.{lookAt, answered, answerOf, distanceNo, queryRefusalNo, whereSound}
 use Rattle.distance.proofs.Theorems as distances
-use Rattle.builder.specs.Rule.{lowest, sum, taken, xorGate, circuitOf}
+use Rattle.builder.specs.Rule.{lowest, sum, taken, xorGate, greedyCircuit}
 use Rattle.builder.specs.Call.{within, built, badRow, tooHeavy, refusal, buildAnswer, Builds}
-use Rattle.builder.specs.Matrix.{rowOn, Computes}
+use Rattle.builder.specs.Matrix.{Computes}
 use Rattle.builder.proofs.Refusals.{accepted, fit}
 use Rattle.builder.proofs.Promise.{built-inputs, built-outs}
 use Rattle.builder.proofs.Begin.{inputs-length}
@@ -50,7 +48,7 @@ use Rattle.bench.specs.declared.Place.{Place}
 use Rattle.bench.specs.declared.Verdict.the-variants.{Wrong, Pass}
 use Rattle.bench.specs.declared.Reported.{Reported}
 use Rattle.bench.specs.declared.Reported.the-variants.{Given}
-use Rattle.bench.specs.Target.{matrix, table, parity, wants}
+use Rattle.bench.specs.Target.{matrix, table, wants}
 use Rattle.bench.specs.State.{Limits, State, present, reportOf, Sound}
 use Rattle.bench.specs.Held.{emptyBench}
 use Rattle.bench.specs.Calls.{openAnswer, reported, ReportPromise}
@@ -59,7 +57,7 @@ use Rattle.bench.specs.Run.Call.{opening}
 use Rattle.bench.proofs.PassLaws.{Right, FirstWrong, pass-right, right-pass, wrong-first, first-wrong}
 use Rattle.bench.proofs.RunLaws.{report-after-calls, opens, opens-as}
 use Rattle.claims.proofs.Causes.{Some, Tells, tells-some, passes, silent}
-use Rattle.claims.proofs.Tables.{OutOfRange, BadRow, BrokenTarget, distanceNo}
+use Rattle.claims.proofs.Tables.{OutOfRange, BadRow, BrokenTarget}
 use Rattle.claims.proofs.Following.{range-law, target-law, row-tells, heavy-tells}
 
 -- ---- What a matrix asks of an output: the inputs that the row has, summed modulo 2.
@@ -133,20 +131,20 @@ module _ (n : ℕ) (ms ds : List ℕ) (t D : ℕ) (r : Distance) (meets : r ≡ 
   unfolding answerOf
   looks = by (lookAt n ms ds t D) (sym (ap distanceNo meets) ∙ fine)
     where
-      numbered : (w : QueryRefusal) → query.refusalNo w ≡ 0 → ⊥
+      numbered : (w : QueryRefusal) → queryRefusalNo w ≡ 0 → ⊥
       numbered Inputs e = omega arith
       numbered Lists e = omega arith
       numbered Mask e = omega arith
       numbered Depth e = omega arith
 
-      by : (x : Looked) → distanceNo (query.unless x (answered (distance n (lines ms ds) t D))) ≡ 0 → x ≡ Looks
+      by : (x : Looked) → distanceNo (whereSound x (answered (distance n (baseOf ms ds) t D))) ≡ 0 → x ≡ Looks
       by Looks e = refl
       by (Unsound w) e = absurd (numbered w e)
 
-  pub query-fewest : (g : ℕ) → (r ≡ Gates g) ↔ Fewest (lines ms ds) t D g
+  pub query-fewest : (g : ℕ) → (r ≡ Gates g) ↔ Fewest (baseOf ms ds) t D g
   query-fewest g = let q = distances.query-gates n ms ds t D looks g in (λ e. q .0 (sym meets ∙ e), λ f. meets ∙ q .1 f)
 
-  pub query-none : (r ≡ Never) ↔ ((h : ℕ) → Program (lines ms ds) h t D → ⊥)
+  pub query-none : (r ≡ Never) ↔ ((h : ℕ) → Program (baseOf ms ds) h t D → ⊥)
   query-none = let q = distances.query-never n ms ds t D looks in (λ e. q .0 (sym meets ∙ e), λ f. meets ∙ q .1 f)
 
 -- ---- The builder.
@@ -167,24 +165,17 @@ pub record BuiltRight (n : ℕ) (ts : List ℕ) (D : ℕ) (c : Listing) : Type 0
   pub few : length (c .gates) ≤ sum (map (λ (t : ℕ). weight n t - 1) ts)
   pub fits : length (c .gates) ≤ 224
 
-row-sum : (n t x : ℕ) → rowOn n t x ≡ onesIn n t x % 2
-row-sum zero t x = refl
-row-sum (suc n) t x =
-    ap₂ differ (bit-and n t x) (row-sum n t x)
-    ∙ differ-sum (min (bit n t) (bit n x)) (onesIn n t x % 2) (omega (arith, bit-lt n t)) (omega arith)
-    ∙ omega arith
-
 module _ (n : ℕ) (ts : List ℕ) (D : ℕ) where
   -- The builder follows the published greedy rule: its gates are those that the rule takes, and each output names its row's lowest line within D.
   pub follows-rule : built n ts D ≡ record { inputs = n; gates = map xorGate (taken (inputs n) (within D ts)); outs = map (lowest (run (inputs n) (taken (inputs n) (within D ts)))) (within D ts) }
-  unfolding built circuitOf
+  unfolding built greedyCircuit
   follows-rule = refl
 
   module _ (ok : refusal n ts D ≡ Done) where
     no-and-depth : andDepthOf (built n ts D) ≡ 0
-    unfolding built circuitOf
+    unfolding built greedyCircuit
     no-and-depth =
-        ap greatest (ap (λ (l : List ℕ). circuits.lines andStep 0 l (gateAt (circuitOf n (inputs n) (within D ts))) (length (map xorGate (taken (inputs n) (within D ts))))) (flat n)
+        ap greatest (ap (λ (l : List ℕ). lines andStep 0 l (gateAt (greedyCircuit n (inputs n) (within D ts))) (length (map xorGate (taken (inputs n) (within D ts))))) (flat n)
         ∙ lines-whole (λ (l : Line). 0) andStep 0 refl (λ k g x y. refl) (inputs n) (taken (inputs n) (within D ts)))
         ∙ zeros (run (inputs n) (taken (inputs n) (within D ts)))
       where
@@ -205,7 +196,7 @@ module _ (n : ℕ) (ts : List ℕ) (D : ℕ) where
           inputs-are = built-inputs n ts D;
           outputs-are = built-outs n ts D;
           only-xor = building.only-xor n ts D ok;
-          computes = λ x j h. building.computes-matrix n ts D ok x j h ∙ row-sum n (getD ts j 0) x;
+          computes = λ x j h. building.computes-matrix n ts D ok x j h ∙ parity-sum n (getD ts j 0) x;
           shallow = building.depth-within n ts D ok;
           linear = no-and-depth;
           few = building.few-gates n ts D ok;
@@ -272,7 +263,7 @@ module _ (n : ℕ) (ts : List ℕ) (D : ℕ) (range : OutOfRange n (length ts) 0
       by (Refused w) e = let z : w ≡ TooShallow = cc in ap Refused z
 
   -- It is refused as too shallow exactly when no XOR program of that depth computes it,
-  pub too-shallow-no-program : (r ≡ NotWritten TooShallow) ↔ ((gs : List Gate) → Computes n ts D gs → ⊥)
+  pub too-shallow-no-program : (r ≡ NotWritten TooShallow) ↔ ((gs : List Xor) → Computes n ts D gs → ⊥)
   too-shallow-no-program =
       let q = building.too-shallow-is-no-program n ts D shape-fits rows-fit depth in
       (λ e. q .0 (answered-so .0 e), λ f. answered-so .1 (q .1 f))

@@ -7,20 +7,16 @@ use Prim.Native.Nat.{ℕ, zero, suc, _+_, _*_, _^_, _≤_, _<_}
 use lib.ListN.{length, getD}
 use Rattle.circuit.specs.Lines.{Listing}
 use Rattle.circuit.specs.Stored.{stored}
-use Rattle.circuit.specs.Reading.{refusalNo, answerNo}
+use Rattle.circuit.specs.Reading.{answerNo}
 use Rattle.circuit.specs.Writing.{writingNo}
-use Rattle.distance.specs.declared.Answer.{Answer as Distance}
-use Rattle.distance.specs.declared.Answer.the-variants.{Gates, Never, Refused as NoDistance}
 use Rattle.distance.specs.Base.{weight}
-use Rattle.distance.specs.Query as query
 use Rattle.builder.specs.Call.{built}
-use Rattle.bench.specs.declared.Reported.{Reported}
-use Rattle.bench.specs.declared.Reported.the-variants.{Given, NotGiven}
 use Rattle.bench.specs.Target.{Target, matrix, table, isMatrix}
 use Rattle.bench.specs.State.{State, Present, nothing, present}
 use Rattle.bench.specs.Calls.{openAnswer, gateEditAnswer, outputEditAnswer, entryEditAnswer, limitsAnswer, reported, storeAnswer}
 use Rattle.bench.specs.Run.{Call}
 use Rattle.bench.specs.Run.Call.{opening, replacing, pointing, changing, limiting, reporting, storing}
+use Rattle.coded.specs.Coded.{reportedCode}
 use Rattle.claims.proofs.Causes.{first, accepted, Some}
 
 -- `first no cause rest` gives `no` where the cause is there, and goes on to the rest of the table where it is not.
@@ -124,17 +120,6 @@ distanceTable n ms ds t D =
     (first 8 ((Some (λ (m : ℕ). 2 ^ n ≤ m) ms ⊎ (t ≡ 0)) ⊎ (2 ^ n ≤ t))
     (first 9 (Some (λ (d : ℕ). 16 ≤ d) ds ⊎ (15 < D)) accepted)))
 
--- the number of a query's answer: a distance, or that there is none, is not a refusal
-abbrev pub distanceNo : Distance → ℕ
-distanceNo (Gates g) = 0
-distanceNo Never = 0
-distanceNo (NoDistance why) = query.refusalNo why
-
--- the number of a report's answer
-abbrev pub reportedNo : Reported → ℕ
-reportedNo (Given r) = 0
-reportedNo (NotGiven w) = refusalNo w
-
 -- the number of a call's answer: 0 where nothing is refused
 abbrev pub callNo : Present → Call → ℕ
 callNo p (opening bytes t l) = answerNo (openAnswer bytes t)
@@ -142,7 +127,7 @@ callNo p (replacing k kind a b) = answerNo (gateEditAnswer p k kind a b)
 callNo p (pointing j line) = answerNo (outputEditAnswer p j line)
 callNo p (changing i value) = answerNo (entryEditAnswer p i value)
 callNo p (limiting l) = answerNo (limitsAnswer p)
-callNo p reporting = reportedNo (reported p)
+callNo p reporting = reportedCode (reported p) .refusal
 callNo p (storing room) = writingNo (storeAnswer p (length room))
 
 abbrev pub callTable : Present → Call → ℕ → Type 0

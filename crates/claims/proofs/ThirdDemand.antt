@@ -22,8 +22,8 @@ use Rattle.bench.specs.declared.Reported.{Reported}
 use Rattle.bench.specs.Target.{Target, isMatrix}
 use Rattle.bench.specs.State.{Limits, State, Present, nothing, present}
 use Rattle.bench.specs.Held.{emptyBench, fullBench, benchOf, Stands}
-use Rattle.bench.specs.Calls.{after, openAnswer, openState, gateEditAnswer, gateEdited, afterGate, gateEdit, editBy, readersOf, sizeOf, outputEditAnswer, outputEdited, entryEditAnswer, entryEdited, noRework, reported, GatePromise, OutputPromise, EntryPromise, LimitsPromise, ReportPromise}
-use Rattle.bench.specs.Run.{Call, afterCall, presentFrom, presentAfter, Runs}
+use Rattle.bench.specs.Calls.{after, openAnswer, openState, gateEditAnswer, gateEdited, afterGate, gateEdit, editBy, readersOf, sizeOf, outputEditAnswer, outputEdited, entryEditAnswer, entryEdited, noRework, reported, asTheyAre, GatePromise, OutputPromise, EntryPromise, LimitsPromise, ReportPromise}
+use Rattle.bench.specs.Run.{Call, afterCall, presentFrom, presentAfter, RunsBy, Runs}
 use Rattle.bench.specs.Run.Call.{opening, replacing, pointing, changing, limiting, reporting, storing}
 use Rattle.bench.proofs.Standing.{circuit-fits}
 use Rattle.bench.proofs.Readers.{Affected, Lists, gate-edit-lists, marked-affected}
@@ -135,6 +135,10 @@ pub record HoldsLine (b : Bench) (c : Listing) (i : ℕ) : Type 0 where
   pub depth : getD (b .depths) i 0 ≡ getD (depths (c .inputs) (gateAt c) (length (c .gates))) i 0
   pub andDepth : getD (b .«and_depths») i 0 ≡ getD (andDepths (c .inputs) (gateAt c) (length (c .gates))) i 0
 
+-- an edit that lists no line as reworked, after which what is held for each line is unchanged
+abbrev pub NoneReworked : Bench → ℕ → Bench → Type 0
+NoneReworked b count next = (count ≡ 0) × ((i : ℕ) → SameLine b next i)
+
 -- ---- The report is that of a first-time examination.
 
 module _ {b : Bench} {calls : List Call} (run : Runs emptyBench calls b) where
@@ -179,11 +183,11 @@ module _ {b : Bench} {calls : List Call} (run : Runs emptyBench calls b) where
     -- An edited gate lists as reworked that gate and every line that reads it, directly or through others, and no more: each once, in ascending order;
     -- and how many: the size of the readers' set defined from the circuit.
     pub lists-reworked : (k kind x y : ℕ) (edit : Edit) (next : Bench) → GatePromise b k kind x y edit next → edit .answer ≡ Done
-        → Lists (s .circuit) k edit × (edit .count ≡ sizeOf (readersOf (s .circuit) k))
+        → Lists (s .circuit) k (edit .lines) (edit .count) × (edit .count ≡ sizeOf (readersOf (s .circuit) k))
     lists-reworked k kind x y edit next h e =
         let q = h (present s) stands .0 in
         let d = sym (gate-answer (present s) k kind x y) ∙ sym (ap (λ (z : Edit). z .answer) q) ∙ e in (
-          subst (λ (z : Edit). Lists (s .circuit) k z) (sym q) (gate-edit-lists s k kind x y (stands .sound) d),
+          subst (λ (z : Edit). Lists (s .circuit) k (z .lines) (z .count)) (sym q) (gate-edit-lists s k kind x y (stands .sound) d),
           ap (λ (z : Edit). z .count) q ∙ ap (λ (a : Answer). editBy a (readersOf (s .circuit) k) .count) d,
         )
 
@@ -204,11 +208,8 @@ module _ {b : Bench} {calls : List Call} (run : Runs emptyBench calls b) where
     replaced-by-itself k there = (laws.itself-same s (stands .sound) k there, laws.itself-reworks s (stands .sound) k there)
 
     -- Other edits list no line as reworked, and what is held for each line is unchanged.
-    abbrev NoneReworked : Edit → Bench → Type 0
-    NoneReworked edit next = (edit .count ≡ 0) × ((i : ℕ) → SameLine b next i)
-
     lines-stay : (r : State) (a : Answer) (edit : Edit) (next : Bench) → ((i : ℕ) → SameLine (fullBench s) (fullBench r) i)
-        → (edit ≡ noRework a) × (next ≡ benchOf (after a r (present s))) → NoneReworked edit next
+        → (edit ≡ noRework a) × (next ≡ benchOf (after a r (present s))) → NoneReworked b (edit .count) next
     lines-stay r a edit next same h = (
       ap (λ (z : Edit). z .count) (h .0),
       λ i. subst (λ (z : Bench). SameLine z next i) (sym (stands .is)) (subst (λ (z : Bench). SameLine (fullBench s) z i) (sym (h .1)) (by a i)),
@@ -218,20 +219,25 @@ module _ {b : Bench} {calls : List Call} (run : Runs emptyBench calls b) where
         by Done i = same i
         by (Refused w) i = record { depth = refl; andDepth = refl; values = refl }
 
-    pub pointing-reworks-none : (j line : ℕ) (edit : Edit) (next : Bench) → OutputPromise b j line edit next → NoneReworked edit next
+    pub pointing-reworks-none : (j line : ℕ) (edit : Edit) (next : Bench) → OutputPromise b j line edit next → NoneReworked b (edit .count) next
     unfolding fullBench
     pointing-reworks-none j line edit next h =
         lines-stay (outputEdited s j line) (outputEditAnswer (present s) j line) edit next (λ i. record { depth = refl; andDepth = refl; values = refl }) (h (present s) stands)
 
-    pub changing-reworks-none : (i value : ℕ) (edit : Edit) (next : Bench) → EntryPromise b i value edit next → NoneReworked edit next
+    pub changing-reworks-none : (i value : ℕ) (edit : Edit) (next : Bench) → EntryPromise b i value edit next → NoneReworked b (edit .count) next
     unfolding fullBench
     changing-reworks-none i value edit next h =
         lines-stay (entryEdited s i value) (entryEditAnswer (present s) i value) edit next (λ k. record { depth = refl; andDepth = refl; values = refl }) (h (present s) stands)
 
-    pub limiting-reworks-none : (l : Limits) (edit : Edit) (next : Bench) → LimitsPromise b l edit next → NoneReworked edit next
+    pub limiting-reworks-none : (l : Limits) (edit : Edit) (next : Bench) → LimitsPromise b l edit next → NoneReworked b (edit .count) next
     unfolding fullBench
     limiting-reworks-none l edit next h =
         lines-stay (record { circuit = s .circuit; target = s .target; limits = l }) Done edit next (λ i. record { depth = refl; andDepth = refl; values = refl }) (h (present s) stands)
+
+-- From any bench, whatever it holds, calls that begin with an accepted opening are as from one with nothing open: all of this holds of them too.
+pub from-any-bench : {b last : Bench} {bytes : List ℕ} {t : Target} {l : Limits} {calls : List Call} → openAnswer bytes t ≡ Done
+    → Runs b (opening bytes t l ∷ calls) last → Runs emptyBench (opening bytes t l ∷ calls) last
+from-any-bench e (RunsBy.more mid step rest) = RunsBy.more mid (laws.open-otherwise asTheyAre emptyBench e step) rest
 
 -- Whatever is called, with limits that are bytes, there is a bench after it: none of this speaks of nothing.
 pub calls-go-on : (calls : List Call) → AllCallable calls → (b : Bench) × Runs emptyBench calls b

@@ -18,9 +18,7 @@ use Rattle.coded.specs.Coded.{editCode, openCoded, editCoded, OpenCode}
 pub open-coded : (b : Bench) (bytes : List ℕ) (t : Target) (l : Limits) (r : Opened) (q : OpenedNumbers)
     → q ≡ openCoded r → OpenPromise b bytes t l (r .answer) (r .bench) → OpenCode b bytes t l (q .refusal) (q .bench)
 unfolding openCoded
-open-coded b bytes t l r q e h p st =
-    let k = h p st in
-    (ap (λ (x : OpenedNumbers). x .refusal) e ∙ ap answerNo (k .0), ap (λ (x : OpenedNumbers). x .bench) e ∙ k .1)
+open-coded b bytes t l r q e h = (ap (λ (x : OpenedNumbers). x .refusal) e ∙ ap answerNo (h .0), ap (λ (x : OpenedNumbers). x .bench) e ∙ h .1)
 
 -- the same of an edit that answers E p and after which N p is present
 pub edit-coded : (b : Bench) (E : Present → Edit) (N : Present → Present) (r : Edited) (q : EditedNumbers)

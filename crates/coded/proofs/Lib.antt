@@ -1,3 +1,3 @@
 -- Laws of the definitions in specs/, which the proofs of the functions and the crates above cite.
 pub mod Coding
-pub mod Unique
+pub mod Mixing

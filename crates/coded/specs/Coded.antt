@@ -1,10 +1,9 @@
--- The answers of the calls as numbers, and what the calls with such answers promise on a bench that stands for p.
-use mathlib.Core.Path.{_≡_}
+-- The answers of the calls as numbers, what the calls with such answers promise, and sequences of them.
+use mathlib.Core.Logic.{_⊎_}
 use mathlib.Core.List.{List}
 use Prim.Native.Nat.{ℕ}
-use lib.ListN.{length}
 use Rattle.circuit.specs.Reading.{refusalNo, answerNo}
-use Rattle.circuit.specs.Writing.{writingCode, roomAfter}
+use Rattle.circuit.specs.Writing.{writingCode}
 use Rattle.bench.specs.declared.Bench.{Bench}
 use Rattle.bench.specs.declared.Edit.{Edit}
 use Rattle.bench.specs.declared.Report.{Report}
@@ -13,9 +12,9 @@ use Rattle.bench.specs.declared.Verdict.the-variants.{Wrong, OverGates, OverDep
 use Rattle.bench.specs.declared.Reported.{Reported}
 use Rattle.bench.specs.declared.Reported.the-variants.{Given, NotGiven}
 use Rattle.bench.specs.Target.{Target}
-use Rattle.bench.specs.State.{Limits, Present}
-use Rattle.bench.specs.Held.{benchOf, Stands}
-use Rattle.bench.specs.Calls.{openAnswer, afterOpen, gateEdit, afterGate, noRework, outputEditAnswer, afterOutput, entryEditAnswer, afterEntry, limitsAnswer, afterLimits, reported, storeAnswer, storedOf}
+use Rattle.bench.specs.State.{Limits}
+use Rattle.bench.specs.Calls.{View, OpenGiven, GateGiven, OutputGiven, EntryGiven, LimitsGiven, ReportGiven, StoreGiven}
+use Rattle.bench.specs.Run.{Call, StepGiven, Step, RunsBy}
 use Rattle.bench.specs.declared.Opened.{Opened}
 use Rattle.bench.specs.declared.Edited.{Edited}
 use Rattle.coded.specs.declared.Opened.{Opened as OpenedNumbers}
@@ -70,30 +69,60 @@ abbrev pub reportedCode : Reported → ReportNumbers
 reportedCode (Given r) = reportCode r
 reportedCode (NotGiven w) = refusedCode (refusalNo w)
 
+-- each answer as numbers; of storing: how many bytes, or 65,536 times the refusal's number
+abbrev pub asNumbers : View
+asNumbers =
+    record {
+      Answers = ℕ;
+      Edits = EditNumbers;
+      Reports = ReportNumbers;
+      Writings = ℕ;
+      answer = answerNo;
+      edit = editCode;
+      report = reportedCode;
+      writing = writingCode;
+    }
+
+-- ---- what the calls promise: as those by value, with each answer as numbers
+
 -- of an open
 abbrev pub OpenCode : Bench → List ℕ → Target → Limits → ℕ → Bench → Type 0
-OpenCode b bytes t l refusal next = (p : Present) → Stands b p → (refusal ≡ answerNo (openAnswer bytes t)) × (next ≡ benchOf (afterOpen p bytes t l))
+OpenCode = OpenGiven asNumbers
 
 -- of replacing a gate
 abbrev pub GateCode : Bench → ℕ → ℕ → ℕ → ℕ → EditNumbers → Bench → Type 0
-GateCode b k kind x y edit next = (p : Present) → Stands b p → (edit ≡ editCode (gateEdit p k kind x y)) × (next ≡ benchOf (afterGate p k kind x y))
+GateCode = GateGiven asNumbers
 
 -- of pointing an output
 abbrev pub OutputCode : Bench → ℕ → ℕ → EditNumbers → Bench → Type 0
-OutputCode b j line edit next = (p : Present) → Stands b p → (edit ≡ editCode (noRework (outputEditAnswer p j line))) × (next ≡ benchOf (afterOutput p j line))
+OutputCode = OutputGiven asNumbers
 
 -- of changing an entry
 abbrev pub EntryCode : Bench → ℕ → ℕ → EditNumbers → Bench → Type 0
-EntryCode b i value edit next = (p : Present) → Stands b p → (edit ≡ editCode (noRework (entryEditAnswer p i value))) × (next ≡ benchOf (afterEntry p i value))
+EntryCode = EntryGiven asNumbers
 
 -- of setting the limits
 abbrev pub LimitsCode : Bench → Limits → EditNumbers → Bench → Type 0
-LimitsCode b l edit next = (p : Present) → Stands b p → (edit ≡ editCode (noRework (limitsAnswer p))) × (next ≡ benchOf (afterLimits p l))
+LimitsCode = LimitsGiven asNumbers
 
 -- of a report
 abbrev pub ReportCodePromise : Bench → ReportNumbers → Type 0
-ReportCodePromise b r = (p : Present) → Stands b p → r ≡ reportedCode (reported p)
+ReportCodePromise = ReportGiven asNumbers
 
--- of storing: how many bytes, or 65,536 times the refusal's number; and each byte of the room
+-- of storing
 abbrev pub StoreCode : Bench → List ℕ → ℕ → List ℕ → Type 0
-StoreCode b room r out = (p : Present) → Stands b p → (r ≡ writingCode (storeAnswer p (length room))) × (out ≡ roomAfter (storeAnswer p (length room)) (storedOf p) room)
+StoreCode = StoreGiven asNumbers
+
+-- ---- a sequence of calls
+
+-- one call with its answer as numbers
+abbrev pub NumberStep : Bench → Call → Bench → Type 0
+NumberStep = StepGiven asNumbers
+
+-- one call with its answer as it is or as numbers
+abbrev pub EitherStep : Bench → Call → Bench → Type 0
+EitherStep b call next = Step b call next ⊎ NumberStep b call next
+
+-- one call after the other, each with its answer as it is or as numbers
+abbrev pub MixedRuns : Bench → List Call → Bench → Type 0
+MixedRuns = RunsBy EitherStep

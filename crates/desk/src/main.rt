@@ -24,9 +24,8 @@ fn answer(b: Bench, line: &[u8], is_long: bool) -> Answered {
             is_written,
         };
     }
-    let mut room = [0u8; OUT];
     let mut out = [0u8; OUT];
-    let told = talk::answer_line(b, line, &mut room, &mut out);
+    let told = talk::answer_line(b, line, &mut out);
     let n = told.len;
     let is_written = io::write_all(STDOUT_FILENO, &out[..n]);
     let bench = told.bench;

@@ -1,7 +1,7 @@
 // What other languages link: the outer calls on a lent bench, with numbers for answers. A bench of zeros has nothing open.
 ghost use mathlib.Core.Path.{_≡_};
 ghost use Rattle.circuit.specs.Writing.{Restored};
-ghost use Rattle.distance.specs.Query.{answerNo, answerOf};
+ghost use Rattle.distance.specs.Query.{distanceCode, answerOf};
 ghost use Rattle.builder.specs.Call.{BuildsNumbered};
 ghost use Rattle.bench.specs.Target.{matrix, table};
 ghost use Rattle.bench.specs.State.{limits};
@@ -136,7 +136,7 @@ pub extern "C" fn allpawasi_distance(
     target: usize,
     d: usize,
 ) -> u64
-    ensures { λ r. ⌜ r ≡ answerNo (answerOf n (now (masks .entry)) (now (depths .entry)) target d) ⌝ }
+    ensures { λ r. ⌜ r ≡ distanceCode (answerOf n (now (masks .entry)) (now (depths .entry)) target d) ⌝ }
 {
     distance::distance_no(n, masks, depths, target, d)
 }

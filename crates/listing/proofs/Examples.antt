@@ -3,7 +3,6 @@ use mathlib.Core.Path.{_≡_, refl}
 use mathlib.Core.List.{[], _∷_, _++_}
 use Prim.Native.Nat.{ℕ}
 use Rattle.circuit.specs.Lines.{Gate, Listing, reads, lines}
-use Rattle.circuit.proofs.Examples.{k1}
 use Rattle.text.specs.Numbers.{decText}
 use Rattle.listing.specs.Printed.{lineName, gateLine, outputLine, linesTo, countsText, linesText, listingText}
 
@@ -11,6 +10,9 @@ abbrev gate : ℕ → ℕ → ℕ → Gate
 gate k a b = record { kind = k; left = a; right = b }
 
 -- K1
+abbrev k1 : Listing
+k1 = record { inputs = 3; gates = gate 0 0 1 ∷ gate 0 2 3 ∷ gate 0 1 2 ∷ []; outs = 3 ∷ 4 ∷ 5 ∷ [] }
+
 pub k1-printed : listingText k1 ≡
     -- inputs 3 outputs 3 gates 3 depth 2
     (105 ∷ 110 ∷ 112 ∷ 117 ∷ 116 ∷ 115 ∷ 32 ∷ 51 ∷ 32 ∷ 111 ∷ 117 ∷ 116 ∷ 112 ∷ 117 ∷ 116 ∷ 115 ∷ 32 ∷ 51 ∷ 32 ∷ 103 ∷ 97 ∷ 116 ∷ 101 ∷ 115 ∷ 32 ∷ 51 ∷ 32 ∷ 100 ∷ 101 ∷ 112 ∷ 116 ∷ 104 ∷ 32 ∷ 50 ∷ 10 ∷ [])

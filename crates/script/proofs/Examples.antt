@@ -2,10 +2,10 @@
 use mathlib.Core.Path.{_≡_, refl}
 use mathlib.Core.List.{List, [], _∷_, map}
 use Prim.Native.Nat.{ℕ}
-use Rattle.text.specs.Places.{run, headWord, tailWords, sameList}
+use Rattle.text.specs.Places.{leading, headWord, tailWords, sameList}
 use Rattle.text.specs.Numbers.{numFrom, allHex, hexBytes}
 use Rattle.script.specs.Order.{Order, silent, unreadable, askOpenTable, askGate, askLimits, askStore, askBuild, askDistance}
-use Rattle.script.specs.Reading.{number, limit, isPairs, hex, kind, nothing, byWord, orderIn}
+use Rattle.script.specs.Reading.{number, limit, isPairs, hex, kind, noMore, byWord, orderIn}
 
 -- lines, and what each asks
 abbrev examples : List (List ℕ × Order)
@@ -43,5 +43,5 @@ examples =
     []
 
 pub examples-right : map (λ (row : List ℕ × Order). orderIn (row .0)) examples ≡ map (λ (row : List ℕ × Order). row .1) examples
-unfolding run headWord tailWords sameList numFrom allHex hexBytes number limit isPairs hex kind nothing byWord orderIn
+unfolding leading headWord tailWords sameList numFrom allHex hexBytes number limit isPairs hex kind noMore byWord orderIn
 examples-right = refl

@@ -7,7 +7,7 @@ use native.Mathlib.Omega.{arith}
 use lib.Dec.{ltb}
 use borrow.Author.Tests.{lt-ltb, le-ltb, eq-eqb, ne-eqb, eqb-true}
 use lib.ListN.{length, take, drop}
-use Rattle.text.specs.Places.{headWord, tailWords, sameList, Next}
+use Rattle.text.specs.Places.{headWord, tailWords, sameList, NextWord}
 use Rattle.text.specs.Numbers.{allHex, hexBytes}
 use Rattle.text.proofs.Places.{same-length, both, part-length}
 use Rattle.script.specs.declared.Part.{Part}
@@ -80,7 +80,7 @@ module _ {line : List ℕ} {c : Cursor} (w : Within line c) where
         ends = refl;
       }
 
-  module _ (e : c .readable ≡ true) {from to : ℕ} (n : Next line (c .at) from to) where
+  module _ (e : c .readable ≡ true) {from to : ℕ} (n : NextWord line (c .at) from to) where
     at-end : {rest : Cursor} → rest .at ≡ to → Took hex line c (bytesOf line (record { from = to; to = to })) rest
         → TookHex line c (record { from = to; to = to }) rest
     at-end p t =

@@ -7,12 +7,12 @@ use native.Mathlib.Omega.{arith}
 use lib.Dec.{ltb}
 use borrow.Author.Tests.{lt-ltb, le-ltb, eq-eqb, ne-eqb}
 use lib.ListN.{length, getD, take, drop}
-use Rattle.text.specs.Places.{headWord, sameList, Next}
+use Rattle.text.specs.Places.{headWord, sameList, NextWord}
 use Rattle.script.specs.declared.Call.{Call}
 use Rattle.script.specs.declared.Call.the-variants.{Silent, Unreadable}
 use Rattle.script.specs.declared.words.Cursor.{Cursor}
 use Rattle.script.specs.Order.{Order, unreadable, orderOf}
-use Rattle.script.specs.Reading.{Rest, nothing, Table, byWord, calls, orderIn}
+use Rattle.script.specs.Reading.{Rest, noMore, Table, byWord, calls, orderIn}
 use Rattle.script.specs.Placed.{Placed, Follows, Means}
 use Rattle.script.specs.Cursors.{onward, Ends}
 use Rattle.script.proofs.Steps.{same-either, word-length}
@@ -25,10 +25,10 @@ module _ {line : List ℕ} {c : Cursor} where
   -- ---- at the end of the line
 
   module _ {r : Bool} (n : Ends line c r) (call : Call) where
-    pub means-done : r ≡ true → Placed line call → (c .readable ≡ true → Follows line call) → Means line call (onward line c (nothing (orderOf line call)))
+    pub means-done : r ≡ true → Placed line call → (c .readable ≡ true → Follows line call) → Means line call (onward line c (noMore (orderOf line call)))
     means-done e p f = record { meaning = sym (n .asks (orderOf line call) ∙ ap (λ (t : Bool). cond t (orderOf line call) unreadable) e); places = p; follows = f (n .kept e) }
 
-    pub means-not : r ≡ false → Means line Unreadable (onward line c (nothing (orderOf line call)))
+    pub means-not : r ≡ false → Means line Unreadable (onward line c (noMore (orderOf line call)))
     means-not e = record { meaning = sym (n .asks (orderOf line call) ∙ ap (λ (t : Bool). cond t (orderOf line call) unreadable) e); places = tt; follows = tt }
 
 -- ---- by the first word
@@ -59,7 +59,7 @@ pub too-long : {line : List ℕ} → 65535 < length line → Means line Unreadab
 unfolding orderIn
 too-long {line} h = record { meaning = rw (lt-ltb 65535 (length line) h); places = tt; follows = tt }
 
-module _ {line : List ℕ} {from to : ℕ} (l : length line ≤ 65535) (n : Next line 0 from to) where
+module _ {line : List ℕ} {from to : ℕ} (l : length line ≤ 65535) (n : NextWord line 0 from to) where
   pub is-blank : to ≤ from → Means line Silent (orderIn line)
   unfolding orderIn
   is-blank h =

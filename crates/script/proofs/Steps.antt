@@ -8,26 +8,26 @@ use borrow.Author.Tests.{lt-ltb, le-ltb, le-leb, lt-leb}
 use lib.ListN.{length, take, drop}
 use Rattle.text.specs.declared.Number.{Number}
 use Rattle.text.specs.declared.Number.the-variants.{Value, Not}
-use Rattle.text.specs.Places.{headWord, tailWords, sameList, Next}
+use Rattle.text.specs.Places.{headWord, tailWords, sameList, NextWord}
 use Rattle.text.specs.Numbers.{numberIn}
 use Rattle.text.proofs.Places.{part-length}
 use Rattle.script.specs.declared.words.Cursor.{Cursor}
 use Rattle.script.specs.Order.{Order, unreadable}
-use Rattle.script.specs.Reading.{Rest, onValue, number, limit, kind, nothing, matrixName, tableName}
+use Rattle.script.specs.Reading.{Rest, onValue, number, limit, kind, noMore, matrixWord, tableWord}
 use Rattle.script.specs.Cursors.{onward, Took, Ends}
 
 -- ---- places
 
 -- a word that is looked for within a line ends there
-pub word-inside : {line : List ℕ} {at from to : ℕ} → at ≤ length line → Next line at from to → to ≤ length line
+pub word-inside : {line : List ℕ} {at from to : ℕ} → at ≤ length line → NextWord line at from to → to ≤ length line
 word-inside h n = omega (arith, h, n .inside)
 
 -- a word is as long as its places say
-pub word-length : {line : List ℕ} {at from to : ℕ} → Next line at from to → length (headWord (drop at line)) ≡ to - from
+pub word-length : {line : List ℕ} {at from to : ℕ} → NextWord line at from to → length (headWord (drop at line)) ≡ to - from
 word-length {line} {at} {from} {to} n = ap length (sym (n .word)) ∙ part-length line at from to n
 
 -- a test of a word is one of the part where it stands
-pub word-test : {line : List ℕ} {at from to : ℕ} {r b : Bool} (test : List ℕ → Bool) → Next line at from to
+pub word-test : {line : List ℕ} {at from to : ℕ} {r b : Bool} (test : List ℕ → Bool) → NextWord line at from to
     → r ≡ test (take (to - from) (drop from line)) → r ≡ b → test (headWord (drop at line)) ≡ b
 word-test test n e t = ap test (sym (n .word)) ∙ sym e ∙ t
 
@@ -43,7 +43,7 @@ module _ {A : Type 0} {word : (A → Rest) → Rest} {line : List ℕ} {c : Curs
   unfolding onward
   took-none h e = record { forward = omega arith; inside = h; asks = λ f. rw e; kept = clash e }
 
-  module _ {from to : ℕ} (h : c .at ≤ length line) (e : c .readable ≡ true) (n : Next line (c .at) from to) where
+  module _ {from to : ℕ} (h : c .at ≤ length line) (e : c .readable ≡ true) (n : NextWord line (c .at) from to) where
     -- a word was read
     pub took-word : ((f : A → Rest) → word f (drop (c .at) line) ≡ f value (tailWords (drop (c .at) line)))
         → Took word line c value (record { readable = true; at = to })
@@ -94,16 +94,16 @@ module _ {line : List ℕ} {c : Cursor} {v : ℕ} {rest : Cursor} (t : Took numb
 -- ---- the kind of a target, and the end of a line
 
 module _ (s : List ℕ) where
-  pub kind-matrix : sameList (headWord s) matrixName ≡ true → (f : Bool → Rest) → kind f s ≡ f true (tailWords s)
+  pub kind-matrix : sameList (headWord s) matrixWord ≡ true → (f : Bool → Rest) → kind f s ≡ f true (tailWords s)
   unfolding kind
   kind-matrix e f = rw e
 
-  module _ (n : sameList (headWord s) matrixName ≡ false) where
-    pub kind-table : sameList (headWord s) tableName ≡ true → (f : Bool → Rest) → kind f s ≡ f false (tailWords s)
+  module _ (n : sameList (headWord s) matrixWord ≡ false) where
+    pub kind-table : sameList (headWord s) tableWord ≡ true → (f : Bool → Rest) → kind f s ≡ f false (tailWords s)
     unfolding kind
     kind-table e f = rw (n, e)
 
-    pub kind-not : sameList (headWord s) tableName ≡ false → (f : Bool → Rest) → kind f s ≡ unreadable
+    pub kind-not : sameList (headWord s) tableWord ≡ false → (f : Bool → Rest) → kind f s ≡ unreadable
     unfolding kind
     kind-not e f = rw (n, e)
 
@@ -112,11 +112,11 @@ module _ {line : List ℕ} {c : Cursor} where
   unfolding onward
   ends-none e = record { asks = λ o. rw e; kept = clash refl }
 
-  module _ {from to : ℕ} (e : c .readable ≡ true) (n : Next line (c .at) from to) where
+  module _ {from to : ℕ} (e : c .readable ≡ true) (n : NextWord line (c .at) from to) where
     pub ends-not : from < to → Ends line c false
-    unfolding nothing onward
+    unfolding noMore onward
     ends-not h = record { asks = λ o. rw (e, lt-ltb 0 (length (headWord (drop (c .at) line))) (omega (arith, word-length n))); kept = clash refl }
 
     pub ends-here : to ≤ from → Ends line c true
-    unfolding nothing onward
+    unfolding noMore onward
     ends-here h = record { asks = λ o. rw (e, le-ltb 0 (length (headWord (drop (c .at) line))) (omega (arith, word-length n))); kept = λ t. e }

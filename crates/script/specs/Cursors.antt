@@ -8,7 +8,7 @@ use Rattle.text.specs.Places.{tailWords}
 use Rattle.script.specs.declared.Part.{Part}
 use Rattle.script.specs.declared.words.Cursor.{Cursor}
 use Rattle.script.specs.Order.{Order, unreadable, bytesOf}
-use Rattle.script.specs.Reading.{Rest, hex, nothing}
+use Rattle.script.specs.Reading.{Rest, hex, noMore}
 use Rattle.script.specs.Placed.{HexPart}
 
 -- what a line asks from a cursor on
@@ -41,5 +41,5 @@ pub record TookHex (line : List ℕ) (c : Cursor) (p : Part) (rest : Cursor) : T
 
 -- whether the line ends at a cursor: an order that asks for its end stands, or is unreadable
 pub record Ends (line : List ℕ) (c : Cursor) (r : Bool) : Type 0 where
-  pub asks : (o : Order) → onward line c (nothing o) ≡ cond r o unreadable
+  pub asks : (o : Order) → onward line c (noMore o) ≡ cond r o unreadable
   pub kept : r ≡ true → c .readable ≡ true

@@ -41,106 +41,106 @@ unfoldable pub hex : (List ℕ → Rest) → Rest
 hex f s = cond (isHex (headWord s)) (f (hexBytes (headWord s)) (tailWords s)) unreadable
 
 -- the word `matrix`
-abbrev pub matrixName : List ℕ
-matrixName = 109 ∷ 97 ∷ 116 ∷ 114 ∷ 105 ∷ 120 ∷ []
+abbrev pub matrixWord : List ℕ
+matrixWord = 109 ∷ 97 ∷ 116 ∷ 114 ∷ 105 ∷ 120 ∷ []
 
 -- the word `table`
-abbrev pub tableName : List ℕ
-tableName = 116 ∷ 97 ∷ 98 ∷ 108 ∷ 101 ∷ []
+abbrev pub tableWord : List ℕ
+tableWord = 116 ∷ 97 ∷ 98 ∷ 108 ∷ 101 ∷ []
 
 -- a target's kind, by its word: whether it is a matrix
 unfoldable pub kind : (Bool → Rest) → Rest
 kind f s =
-    cond (sameList (headWord s) matrixName) (f true (tailWords s))
-    (cond (sameList (headWord s) tableName) (f false (tailWords s)) unreadable)
+    cond (sameList (headWord s) matrixWord) (f true (tailWords s))
+    (cond (sameList (headWord s) tableWord) (f false (tailWords s)) unreadable)
 
 -- no word more
-unfoldable pub nothing : Order → Rest
-nothing o s = cond (ltb 0 (length (headWord s))) unreadable o
+unfoldable pub noMore : Order → Rest
+noMore o s = cond (ltb 0 (length (headWord s))) unreadable o
 
 -- an open, by the kind of its target
 abbrev pub askOpen : Bool → List ℕ → List ℕ → ℕ → ℕ → ℕ → Order
 askOpen isMatrix bytes target g d a = cond isMatrix (askOpenMatrix bytes target g d a) (askOpenTable bytes target g d a)
 
 -- `open HEX matrix HEX G D A` or `open HEX table HEX G D A`
-abbrev pub openIn : Rest
-openIn = hex (λ bytes. kind (λ isMatrix. hex (λ target. limit (λ g. limit (λ d. limit (λ a. nothing (askOpen isMatrix bytes target g d a)))))))
+abbrev pub openRest : Rest
+openRest = hex (λ bytes. kind (λ isMatrix. hex (λ target. limit (λ g. limit (λ d. limit (λ a. noMore (askOpen isMatrix bytes target g d a)))))))
 
 -- `gate K KIND A B`
-abbrev pub gateIn : Rest
-gateIn = number (λ k. number (λ t. number (λ a. number (λ b. nothing (askGate k t a b)))))
+abbrev pub gateRest : Rest
+gateRest = number (λ k. number (λ t. number (λ a. number (λ b. noMore (askGate k t a b)))))
 
 -- `output J LINE`
-abbrev pub outputIn : Rest
-outputIn = number (λ j. number (λ line. nothing (askOutput j line)))
+abbrev pub outputRest : Rest
+outputRest = number (λ j. number (λ line. noMore (askOutput j line)))
 
 -- `entry I VALUE`
-abbrev pub entryIn : Rest
-entryIn = number (λ i. number (λ value. nothing (askEntry i value)))
+abbrev pub entryRest : Rest
+entryRest = number (λ i. number (λ value. noMore (askEntry i value)))
 
 -- `limits G D A`
-abbrev pub limitsIn : Rest
-limitsIn = limit (λ g. limit (λ d. limit (λ a. nothing (askLimits g d a))))
+abbrev pub limitsRest : Rest
+limitsRest = limit (λ g. limit (λ d. limit (λ a. noMore (askLimits g d a))))
 
 -- `store ROOM`
-abbrev pub storeIn : Rest
-storeIn = number (λ room. nothing (askStore room))
+abbrev pub storeRest : Rest
+storeRest = number (λ room. noMore (askStore room))
 
 -- `build N ROWSHEX D ROOM`
-abbrev pub buildIn : Rest
-buildIn = number (λ n. hex (λ rows. number (λ d. number (λ room. nothing (askBuild n rows d room)))))
+abbrev pub buildRest : Rest
+buildRest = number (λ n. hex (λ rows. number (λ d. number (λ room. noMore (askBuild n rows d room)))))
 
 -- `distance N MASKSHEX DEPTHSHEX T D`
-abbrev pub distanceIn : Rest
-distanceIn = number (λ n. hex (λ masks. hex (λ depths. number (λ t. number (λ d. nothing (askDistance n masks depths t d))))))
+abbrev pub distanceRest : Rest
+distanceRest = number (λ n. hex (λ masks. hex (λ depths. number (λ t. number (λ d. noMore (askDistance n masks depths t d))))))
 
 -- the word `new`
-abbrev pub newName : List ℕ
-newName = 110 ∷ 101 ∷ 119 ∷ []
+abbrev pub newWord : List ℕ
+newWord = 110 ∷ 101 ∷ 119 ∷ []
 
 -- the word `report`
-abbrev pub reportName : List ℕ
-reportName = 114 ∷ 101 ∷ 112 ∷ 111 ∷ 114 ∷ 116 ∷ []
+abbrev pub reportWord : List ℕ
+reportWord = 114 ∷ 101 ∷ 112 ∷ 111 ∷ 114 ∷ 116 ∷ []
 
 -- the word `held`
-abbrev pub heldName : List ℕ
-heldName = 104 ∷ 101 ∷ 108 ∷ 100 ∷ []
+abbrev pub heldWord : List ℕ
+heldWord = 104 ∷ 101 ∷ 108 ∷ 100 ∷ []
 
 -- the word `show`
-abbrev pub showName : List ℕ
-showName = 115 ∷ 104 ∷ 111 ∷ 119 ∷ []
+abbrev pub showWord : List ℕ
+showWord = 115 ∷ 104 ∷ 111 ∷ 119 ∷ []
 
 -- the word `gate`
-abbrev pub gateName : List ℕ
-gateName = 103 ∷ 97 ∷ 116 ∷ 101 ∷ []
+abbrev pub gateWord : List ℕ
+gateWord = 103 ∷ 97 ∷ 116 ∷ 101 ∷ []
 
 -- the word `output`
-abbrev pub outputName : List ℕ
-outputName = 111 ∷ 117 ∷ 116 ∷ 112 ∷ 117 ∷ 116 ∷ []
+abbrev pub outputWord : List ℕ
+outputWord = 111 ∷ 117 ∷ 116 ∷ 112 ∷ 117 ∷ 116 ∷ []
 
 -- the word `entry`
-abbrev pub entryName : List ℕ
-entryName = 101 ∷ 110 ∷ 116 ∷ 114 ∷ 121 ∷ []
+abbrev pub entryWord : List ℕ
+entryWord = 101 ∷ 110 ∷ 116 ∷ 114 ∷ 121 ∷ []
 
 -- the word `limits`
-abbrev pub limitsName : List ℕ
-limitsName = 108 ∷ 105 ∷ 109 ∷ 105 ∷ 116 ∷ 115 ∷ []
+abbrev pub limitsWord : List ℕ
+limitsWord = 108 ∷ 105 ∷ 109 ∷ 105 ∷ 116 ∷ 115 ∷ []
 
 -- the word `open`
-abbrev pub openName : List ℕ
-openName = 111 ∷ 112 ∷ 101 ∷ 110 ∷ []
+abbrev pub openWord : List ℕ
+openWord = 111 ∷ 112 ∷ 101 ∷ 110 ∷ []
 
 -- the word `store`
-abbrev pub storeName : List ℕ
-storeName = 115 ∷ 116 ∷ 111 ∷ 114 ∷ 101 ∷ []
+abbrev pub storeWord : List ℕ
+storeWord = 115 ∷ 116 ∷ 111 ∷ 114 ∷ 101 ∷ []
 
 -- the word `build`
-abbrev pub buildName : List ℕ
-buildName = 98 ∷ 117 ∷ 105 ∷ 108 ∷ 100 ∷ []
+abbrev pub buildWord : List ℕ
+buildWord = 98 ∷ 117 ∷ 105 ∷ 108 ∷ 100 ∷ []
 
 -- the word `distance`
-abbrev pub distanceName : List ℕ
-distanceName = 100 ∷ 105 ∷ 115 ∷ 116 ∷ 97 ∷ 110 ∷ 99 ∷ 101 ∷ []
+abbrev pub distanceWord : List ℕ
+distanceWord = 100 ∷ 105 ∷ 115 ∷ 116 ∷ 97 ∷ 110 ∷ 99 ∷ 101 ∷ []
 
 -- a table of calls: each word, and what the rest of the line asks after it
 abbrev pub Table : Type 0
@@ -153,15 +153,15 @@ byWord (row ∷ rows) w s = cond (sameList w (row .0)) (row .1 s) (byWord rows w
 
 -- calls that bring or take bytes
 abbrev pub bytesCalls : Table
-bytesCalls = (openName, openIn) ∷ (storeName, storeIn) ∷ (buildName, buildIn) ∷ (distanceName, distanceIn) ∷ []
+bytesCalls = (openWord, openRest) ∷ (storeWord, storeRest) ∷ (buildWord, buildRest) ∷ (distanceWord, distanceRest) ∷ []
 
 -- those, and edits
 abbrev pub editCalls : Table
-editCalls = (gateName, gateIn) ∷ (outputName, outputIn) ∷ (entryName, entryIn) ∷ (limitsName, limitsIn) ∷ bytesCalls
+editCalls = (gateWord, gateRest) ∷ (outputWord, outputRest) ∷ (entryWord, entryRest) ∷ (limitsWord, limitsRest) ∷ bytesCalls
 
 -- those, and calls of one word: the whole language
 abbrev pub calls : Table
-calls = (newName, nothing askNew) ∷ (reportName, nothing askReport) ∷ (heldName, nothing askHeld) ∷ (showName, nothing askShow) ∷ editCalls
+calls = (newWord, noMore askNew) ∷ (reportWord, noMore askReport) ∷ (heldWord, noMore askHeld) ∷ (showWord, noMore askShow) ∷ editCalls
 
 -- what a line asks: nothing where it is blank or its first byte is `#`; too long a line is unreadable whatever it says
 unfoldable pub orderIn : List ℕ → Order

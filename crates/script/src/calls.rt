@@ -16,14 +16,14 @@ use crate::words::number_at;
 ghost use mathlib.Core.Path.{_≡_};
 ghost use mathlib.Core.Bool.{Bool};
 ghost use Rattle.script.specs.Order.{orderOf};
-ghost use Rattle.script.specs.Reading.{openIn, gateIn, outputIn, entryIn, limitsIn, storeIn, buildIn, distanceIn, nothing};
+ghost use Rattle.script.specs.Reading.{openRest, gateRest, outputRest, entryRest, limitsRest, storeRest, buildRest, distanceRest, noMore};
 ghost use Rattle.script.specs.Placed.{Placed, Follows, Means};
 ghost use Rattle.script.specs.Cursors.{onward, Within, Second};
 
 // The call whose words were all read, unless a word is left.
 pub(crate) fn finish(line: &[u8], here: Cursor, call: Call) -> Call
     requires { ⌜ Within (now line) here × Placed (now line) call × (here .readable ≡ Bool.true → Follows (now line) call) ⌝ }
-    ensures { λ r. ⌜ Means (now (line .entry)) r (onward (now (line .entry)) here (nothing (orderOf (now (line .entry)) call))) ⌝ }
+    ensures { λ r. ⌜ Means (now (line .entry)) r (onward (now (line .entry)) here (noMore (orderOf (now (line .entry)) call))) ⌝ }
 {
     if is_done(line, here) {
         return call;
@@ -34,7 +34,7 @@ pub(crate) fn finish(line: &[u8], here: Cursor, call: Call) -> Call
 // `open HEX matrix HEX G D A` or `open HEX table HEX G D A`.
 pub(crate) fn read_open(line: &[u8], here: Cursor) -> Call
     requires { ⌜ Second (now line) here ⌝ }
-    ensures { λ r. ⌜ Means (now (line .entry)) r (onward (now (line .entry)) here openIn) ⌝ }
+    ensures { λ r. ⌜ Means (now (line .entry)) r (onward (now (line .entry)) here openRest) ⌝ }
 {
     let stored = hex_at(line, here);
     let kind = kind_at(line, stored.rest);
@@ -60,7 +60,7 @@ pub(crate) fn read_open(line: &[u8], here: Cursor) -> Call
 // `gate K KIND A B`.
 pub(crate) fn read_gate(line: &[u8], here: Cursor) -> Call
     requires { ⌜ Second (now line) here ⌝ }
-    ensures { λ r. ⌜ Means (now (line .entry)) r (onward (now (line .entry)) here gateIn) ⌝ }
+    ensures { λ r. ⌜ Means (now (line .entry)) r (onward (now (line .entry)) here gateRest) ⌝ }
 {
     let k = number_at(line, here);
     let kind = number_at(line, k.rest);
@@ -78,7 +78,7 @@ pub(crate) fn read_gate(line: &[u8], here: Cursor) -> Call
 // `output J LINE`.
 pub(crate) fn read_output(line: &[u8], here: Cursor) -> Call
     requires { ⌜ Second (now line) here ⌝ }
-    ensures { λ r. ⌜ Means (now (line .entry)) r (onward (now (line .entry)) here outputIn) ⌝ }
+    ensures { λ r. ⌜ Means (now (line .entry)) r (onward (now (line .entry)) here outputRest) ⌝ }
 {
     let j = number_at(line, here);
     let to = number_at(line, j.rest);
@@ -92,7 +92,7 @@ pub(crate) fn read_output(line: &[u8], here: Cursor) -> Call
 // `entry I VALUE`.
 pub(crate) fn read_entry(line: &[u8], here: Cursor) -> Call
     requires { ⌜ Second (now line) here ⌝ }
-    ensures { λ r. ⌜ Means (now (line .entry)) r (onward (now (line .entry)) here entryIn) ⌝ }
+    ensures { λ r. ⌜ Means (now (line .entry)) r (onward (now (line .entry)) here entryRest) ⌝ }
 {
     let i = number_at(line, here);
     let to = number_at(line, i.rest);
@@ -106,7 +106,7 @@ pub(crate) fn read_entry(line: &[u8], here: Cursor) -> Call
 // `limits G D A`.
 pub(crate) fn read_limits(line: &[u8], here: Cursor) -> Call
     requires { ⌜ Second (now line) here ⌝ }
-    ensures { λ r. ⌜ Means (now (line .entry)) r (onward (now (line .entry)) here limitsIn) ⌝ }
+    ensures { λ r. ⌜ Means (now (line .entry)) r (onward (now (line .entry)) here limitsRest) ⌝ }
 {
     let gates = limit_at(line, here);
     let depth = limit_at(line, gates.rest);
@@ -122,7 +122,7 @@ pub(crate) fn read_limits(line: &[u8], here: Cursor) -> Call
 // `store ROOM`.
 pub(crate) fn read_store(line: &[u8], here: Cursor) -> Call
     requires { ⌜ Second (now line) here ⌝ }
-    ensures { λ r. ⌜ Means (now (line .entry)) r (onward (now (line .entry)) here storeIn) ⌝ }
+    ensures { λ r. ⌜ Means (now (line .entry)) r (onward (now (line .entry)) here storeRest) ⌝ }
 {
     let room = number_at(line, here);
     finish(line, room.rest, Call::Store(room.value))
@@ -131,7 +131,7 @@ pub(crate) fn read_store(line: &[u8], here: Cursor) -> Call
 // `build N ROWSHEX D ROOM`.
 pub(crate) fn read_build(line: &[u8], here: Cursor) -> Call
     requires { ⌜ Second (now line) here ⌝ }
-    ensures { λ r. ⌜ Means (now (line .entry)) r (onward (now (line .entry)) here buildIn) ⌝ }
+    ensures { λ r. ⌜ Means (now (line .entry)) r (onward (now (line .entry)) here buildRest) ⌝ }
 {
     let n = number_at(line, here);
     let masks = hex_at(line, n.rest);
@@ -150,7 +150,7 @@ pub(crate) fn read_build(line: &[u8], here: Cursor) -> Call
 // `distance N MASKSHEX DEPTHSHEX T D`.
 pub(crate) fn read_distance(line: &[u8], here: Cursor) -> Call
     requires { ⌜ Second (now line) here ⌝ }
-    ensures { λ r. ⌜ Means (now (line .entry)) r (onward (now (line .entry)) here distanceIn) ⌝ }
+    ensures { λ r. ⌜ Means (now (line .entry)) r (onward (now (line .entry)) here distanceRest) ⌝ }
 {
     let n = number_at(line, here);
     let base = hex_at(line, n.rest);

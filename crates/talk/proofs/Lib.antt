@@ -10,3 +10,4 @@ pub mod Laying
 pub mod Unique
 pub mod Examples
 pub mod Sessions
+pub mod Typed

@@ -1,49 +1,38 @@
 -- Line after line: a program that takes each result on to the next line writes what the definition says of all of them. Assumes nothing.
-use mathlib.Core.Path.{_≡_, refl, ap₂}
+use mathlib.Core.Path.{_≡_, refl, ap, ap₂, _∙_}
 use mathlib.Core.Bool.{Bool, true, false, cond}
 use mathlib.Core.List.{List, [], _∷_, _++_}
 use Prim.Native.Nat.{ℕ, _≤_}
 use native.Mathlib.Omega.{arith}
 use borrow.Author.Tests.{leb-true}
 use lib.Dec.{leb, ltb, eqb}
-use lib.ListN.{length, getD, take}
+use lib.ListN.{length, getD, take, drop, length-append}
+use lib.Seq.{take-at, drop-at}
 use Rattle.text.specs.declared.Number.{Number}
 use Rattle.text.specs.declared.Number.the-variants.{Value, Not}
 use Rattle.text.specs.Places.{headWord, tailWords, sameList}
 use Rattle.text.specs.Numbers.{numberIn, hexBytes}
-use Rattle.script.specs.Order.{Order, silent, unreadable, askNew, askOpenMatrix, askOpenTable, askReport, askGate, askOutput, askEntry, askLimits, askStore, askHeld, askShow, askBuild, askDistance}
-use Rattle.script.specs.Reading.{Rest, onValue, number, limit, isHex, hex, matrixName, tableName, kind, nothing as noMore, Table, byWord, askOpen, openIn, gateIn, outputIn, entryIn, buildIn, distanceIn, bytesCalls, editCalls, calls, orderIn}
+use Rattle.text.proofs.Putting.{counted}
+use Rattle.script.specs.Order.{Order, silent, unreadable, askNew, askReport, askGate, askOutput, askEntry, askLimits, askStore, askHeld, askShow, askBuild, askDistance}
+use Rattle.script.specs.Reading.{Rest, onValue, number, limit, isHex, hex, matrixWord, tableWord, kind, noMore, Table, byWord, askOpen, openRest, gateRest, outputRest, entryRest, buildRest, distanceRest, bytesCalls, editCalls, calls, orderIn}
 use Rattle.bench.specs.declared.Bench.{Bench}
-use Rattle.bench.specs.Target.{matrix, table}
 use Rattle.bench.specs.State.{Present, nothing, SoundPresent, limits}
-use Rattle.bench.specs.Held.{emptyBench, Stands}
-use Rattle.bench.specs.Run.{ByteLimits}
-use Rattle.bench.specs.Run.Call.{opening, replacing, pointing, changing, limiting}
+use Rattle.bench.specs.Held.{emptyBench, benchOf, Stands}
+use Rattle.bench.specs.Run.{Call, ByteLimits, afterCall, presentFrom}
 use Rattle.bench.proofs.SoundLaws.{sound-call}
+use Rattle.bench.proofs.RunLaws.{AllCallable, empty-stands}
+use Rattle.bench.proofs.Unique.{one-present}
 use Rattle.talk.specs.declared.Told.{Told}
-use Rattle.talk.specs.Talk.{presentAfter, written, Answers}
+use Rattle.talk.specs.Talk.{Deed, clearing, calling, deedOf, presentBy, presentAfterLine, presentAfterLines, textOf, written, Answers}
 
--- what limits an order brings, if any, are bytes
-abbrev BytesIn : Order → Type 0
-BytesIn silent = Unit {0}
-BytesIn unreadable = Unit {0}
-BytesIn askNew = Unit {0}
-BytesIn (askOpenMatrix bytes rows g d a) = ByteLimits (limits g d a)
-BytesIn (askOpenTable bytes entries g d a) = ByteLimits (limits g d a)
-BytesIn askReport = Unit {0}
-BytesIn (askGate k t a b) = Unit {0}
-BytesIn (askOutput j line) = Unit {0}
-BytesIn (askEntry i value) = Unit {0}
-BytesIn (askLimits g d a) = ByteLimits (limits g d a)
-BytesIn (askStore room) = Unit {0}
-BytesIn askHeld = Unit {0}
-BytesIn askShow = Unit {0}
-BytesIn (askBuild n rows d room) = Unit {0}
-BytesIn (askDistance n masks depths t d) = Unit {0}
+-- the limits that a deed brings, if any, are bytes
+abbrev pub ByteLimited : Deed → Type 0
+ByteLimited clearing = Unit {0}
+ByteLimited (calling calls) = AllCallable calls
 
--- the same by a name that shows the order
+-- those of an order, by a name that shows it
 pub record Limited (o : Order) : Type 0 where
-  pub bytes : BytesIn o
+  pub bytes : ByteLimited (deedOf o)
 
 -- ---- what a line asks is limited, word by word
 
@@ -89,10 +78,10 @@ good-hex f p s = either (isHex (headWord s)) (p (hexBytes (headWord s)) (tailWor
 -- after a target's kind
 good-kind : (f : Bool → Rest) → ((t : Bool) → Good (f t)) → Good (kind f)
 unfolding kind
-good-kind f p s = either (sameList (headWord s) matrixName) (p true (tailWords s)) (either (sameList (headWord s) tableName) (p false (tailWords s)) none)
+good-kind f p s = either (sameList (headWord s) matrixWord) (p true (tailWords s)) (either (sameList (headWord s) tableWord) (p false (tailWords s)) none)
 
 -- after the last word
-good-end : (o : Order) → BytesIn o → Good (noMore o)
+good-end : (o : Order) → ByteLimited (deedOf o) → Good (noMore o)
 unfolding noMore
 good-end o p s = either (ltb 0 (length (headWord s))) none (record { bytes = p })
 
@@ -108,47 +97,47 @@ good-word [] w p s = none
 good-word (row ∷ rows) w p s = either (sameList w (row .0)) (p .0 s) (good-word rows w (p .1) s)
 
 -- three limits
-three : (f : ℕ → ℕ → ℕ → Order) → ((g d a : ℕ) → ByteLimits (limits g d a) → BytesIn (f g d a))
+three : (f : ℕ → ℕ → ℕ → Order) → ((g d a : ℕ) → ByteLimits (limits g d a) → ByteLimited (deedOf (f g d a)))
     → Good (limit (λ g. limit (λ d. limit (λ a. noMore (f g d a)))))
 three f p =
     good-limit _ (λ g x. good-limit _ (λ d y. good-limit _ (λ a z.
     good-end (f g d a) (p g d a (record { gates = omega arith; depth = omega arith; andDepth = omega arith })))))
 
 -- an open of either kind
-open-bytes : (t : Bool) (bytes target : List ℕ) (g d a : ℕ) → ByteLimits (limits g d a) → BytesIn (askOpen t bytes target g d a)
-open-bytes true bytes target g d a h = h
-open-bytes false bytes target g d a h = h
+open-bytes : (t : Bool) (bytes target : List ℕ) (g d a : ℕ) → ByteLimits (limits g d a) → ByteLimited (deedOf (askOpen t bytes target g d a))
+open-bytes true bytes target g d a h = (h, tt)
+open-bytes false bytes target g d a h = (h, tt)
 
 -- `open`, `build` and `distance`
-good-open : Good openIn
+good-open : Good openRest
 good-open = good-hex _ (λ bytes. good-kind _ (λ t. good-hex _ (λ target. three (askOpen t bytes target) (open-bytes t bytes target))))
 
-good-build : Good buildIn
+good-build : Good buildRest
 good-build = good-number _ (λ n. good-hex _ (λ rows. good-number _ (λ d. good-number _ (λ room. good-end (askBuild n rows d room) tt))))
 
-good-distance : Good distanceIn
+good-distance : Good distanceRest
 good-distance =
     good-number _ (λ n. good-hex _ (λ masks. good-hex _ (λ depths. good-number _ (λ t. good-number _ (λ d. good-end (askDistance n masks depths t d) tt)))))
 
 -- `gate`, `output` and `entry`
-good-gate : Good gateIn
-good-gate = good-number _ (λ k. good-number _ (λ t. good-number _ (λ a. good-number _ (λ b. good-end (askGate k t a b) tt))))
+good-gate : Good gateRest
+good-gate = good-number _ (λ k. good-number _ (λ t. good-number _ (λ a. good-number _ (λ b. good-end (askGate k t a b) (tt, tt)))))
 
-good-output : Good outputIn
-good-output = good-number _ (λ j. good-number _ (λ line. good-end (askOutput j line) tt))
+good-output : Good outputRest
+good-output = good-number _ (λ j. good-number _ (λ line. good-end (askOutput j line) (tt, tt)))
 
-good-entry : Good entryIn
-good-entry = good-number _ (λ i. good-number _ (λ value. good-end (askEntry i value) tt))
+good-entry : Good entryRest
+good-entry = good-number _ (λ i. good-number _ (λ value. good-end (askEntry i value) (tt, tt)))
 
 -- all calls
 good-bytes : GoodRows bytesCalls
-good-bytes = (good-open, (good-number _ (λ room. good-end (askStore room) tt), (good-build, (good-distance, tt))))
+good-bytes = (good-open, (good-number _ (λ room. good-end (askStore room) (tt, tt)), (good-build, (good-distance, tt))))
 
 good-edits : GoodRows editCalls
-good-edits = (good-gate, (good-output, (good-entry, (three askLimits (λ g d a h. h), good-bytes))))
+good-edits = (good-gate, (good-output, (good-entry, (three askLimits (λ g d a h. (h, tt)), good-bytes))))
 
 good-calls : GoodRows calls
-good-calls = (good-end askNew tt, (good-end askReport tt, (good-end askHeld tt, (good-end askShow tt, good-edits))))
+good-calls = (good-end askNew tt, (good-end askReport (tt, tt), (good-end askHeld tt, (good-end askShow tt, good-edits))))
 
 -- every line
 pub line-limited : (line : List ℕ) → Limited (orderIn line)
@@ -160,42 +149,64 @@ line-limited line =
 
 -- ---- the bench after a line stands for what is present after it
 
--- every order that is limited keeps what is present sound
-sound-order : (p : Present) (o : Order) → BytesIn o → SoundPresent p → SoundPresent (presentAfter p o)
-sound-order p silent l ok = ok
-sound-order p unreadable l ok = ok
-sound-order p askNew l ok = tt
-sound-order p (askOpenMatrix bytes rows g d a) l ok = sound-call p (opening bytes (matrix rows) (limits g d a)) l ok
-sound-order p (askOpenTable bytes entries g d a) l ok = sound-call p (opening bytes (table entries) (limits g d a)) l ok
-sound-order p askReport l ok = ok
-sound-order p (askGate k t a b) l ok = sound-call p (replacing k t a b) tt ok
-sound-order p (askOutput j line) l ok = sound-call p (pointing j line) tt ok
-sound-order p (askEntry i value) l ok = sound-call p (changing i value) tt ok
-sound-order p (askLimits g d a) l ok = sound-call p (limiting (limits g d a)) l ok
-sound-order p (askStore room) l ok = ok
-sound-order p askHeld l ok = ok
-sound-order p askShow l ok = ok
-sound-order p (askBuild n rows d room) l ok = ok
-sound-order p (askDistance n masks depths t d) l ok = ok
+-- some calls keep what is present sound
+sound-calls : (p : Present) (calls : List Call) → AllCallable calls → SoundPresent p → SoundPresent (presentFrom p calls)
+sound-calls p [] l ok = ok
+sound-calls p (call ∷ calls) l ok = sound-calls (afterCall p call) calls (l .1) (sound-call p call (l .0) ok)
+
+-- and so does every deed
+sound-deed : (p : Present) (d : Deed) → ByteLimited d → SoundPresent p → SoundPresent (presentBy p d)
+sound-deed p clearing l ok = tt
+sound-deed p (calling calls) l ok = sound-calls p calls l ok
 
 -- and so the promise goes on
-pub stands-after : (b : Bench) (p : Present) → Stands b p → (line out : List ℕ) (r : Told) → Answers b (orderIn line) out r
-    → Stands (r .bench) (presentAfter p (orderIn line))
-stands-after b p k line out r f = record { sound = sound-order p (orderIn line) (line-limited line .bytes) (k .sound); is = f .bench p k }
+pub stands-after : (b : Bench) (p : Present) → Stands b p → (line out after : List ℕ) (r : Told) → Answers b (orderIn line) out after r
+    → Stands (r .bench) (presentAfterLine p (orderIn line))
+stands-after b p k line out after r f = record { sound = sound-deed p (deedOf (orderIn line)) (line-limited line .bytes) (k .sound); is = f .bench p k }
 
--- ---- a session: for each line a result that meets the promise on the bench that the line before left, and its answer written
+-- ---- a session: for each line a result that meets the promise on the bench that the line before left, its answer written, and the bench after the last
 
-pub data Session : Bench → List (List ℕ) → List ℕ → Type 0 where
-  over : {b : Bench} → Session b [] []
-  next : {b : Bench} {line : List ℕ} {lines : List (List ℕ)} {text : List ℕ} (out : List ℕ) (r : Told)
-      → Answers b (orderIn line) out r → Session (r .bench) lines text → Session b (line ∷ lines) (take (r .len) out ++ text)
+pub data Session : Bench → List (List ℕ) → List ℕ → Bench → Type 0 where
+  over : {b : Bench} → Session b [] [] b
+  next : {b last : Bench} {line : List ℕ} {lines : List (List ℕ)} {text : List ℕ} (out after : List ℕ) (r : Told)
+      → Answers b (orderIn line) out after r → Session (r .bench) lines text last → Session b (line ∷ lines) (take (r .len) after ++ text) last
 
--- what is written in a session on a bench that stands for p
-pub session-writes : {b : Bench} {lines : List (List ℕ)} {text : List ℕ} (p : Present) → Stands b p → Session b lines text → text ≡ written p lines
-session-writes p k over = refl
-session-writes p k (next {b} {line} out r f more) =
-    ap₂ (λ (x y : List ℕ). x ++ y) (f .text p k) (session-writes (presentAfter p (orderIn line)) (stands-after b p k line out r f) more)
+-- on a bench that stands for p: what is written, and what the last bench stands for
+pub session-writes : {b last : Bench} {lines : List (List ℕ)} {text : List ℕ} (p : Present) → Stands b p → Session b lines text last
+    → (text ≡ written p lines) × Stands last (presentAfterLines p lines)
+session-writes p k over = (refl, k)
+session-writes p k (next {b} {line} out after r f more) =
+    let rest = session-writes (presentAfterLine p (orderIn line)) (stands-after b p k line out after r f) more in
+    (ap₂ (λ (x y : List ℕ). x ++ y) (f .text p k) (rest .0), rest .1)
 
 -- from an empty bench on
-pub session-from-empty : {lines : List (List ℕ)} {text : List ℕ} → Session emptyBench lines text → text ≡ written nothing lines
-session-from-empty s = session-writes nothing (record { sound = tt; is = refl }) s
+pub session-from-empty : {lines : List (List ℕ)} {text : List ℕ} {b : Bench} → Session emptyBench lines text b
+    → (text ≡ written nothing lines) × Stands b (presentAfterLines nothing lines)
+session-from-empty s = session-writes nothing empty-stands s
+
+-- ---- whatever is typed, a session can be held
+
+-- there is a result that meets the promise, in any room
+answer-exists : (b : Bench) (p : Present) → Stands b p → (o : Order) (out : List ℕ) → let text = textOf p o in
+    Answers b o out (text ++ drop (length text) out) (record { bench = benchOf (presentAfterLine p o); len = length text })
+answer-exists b p k o out =
+    let text = textOf p o in
+    let rest = drop (length text) out in
+    record {
+      counts = counted (length text) (text ++ rest) (omega (arith, length-append text rest));
+      rest = drop-at text rest (length text) refl;
+      bench = λ q l. ap (λ (x : Present). benchOf (presentAfterLine x o)) (one-present b p q k l);
+      text = λ q l. take-at text rest (length text) refl ∙ ap (λ (x : Present). textOf x o) (one-present b p q k l);
+    }
+
+session-exists : (b : Bench) (p : Present) → Stands b p → (lines : List (List ℕ)) → (text : List ℕ) × ((last : Bench) × Session b lines text last)
+session-exists b p k [] = ([], (b, over))
+session-exists b p k (line ∷ lines) =
+    let q = presentAfterLine p (orderIn line) in
+    let r : Told = record { bench = benchOf q; len = length (textOf p (orderIn line)) } in
+    let f = answer-exists b p k (orderIn line) [] in
+    let rest = session-exists (benchOf q) q (stands-after b p k line [] _ r f) lines in
+    (_, (rest .1 .0, next [] _ r f (rest .1 .1)))
+
+pub sessions-go-on : (lines : List (List ℕ)) → (text : List ℕ) × ((b : Bench) × Session emptyBench lines text b)
+sessions-go-on lines = session-exists emptyBench nothing empty-stands lines

@@ -1,26 +1,33 @@
--- What is said first in a room: a text that was put there is its first bytes. Assumes nothing.
-use mathlib.Core.Path.{_≡_, refl, ap, _∙_, sym}
+-- What is said first in a room: a text that was put there is its first bytes, and the others are as they were. Assumes nothing.
+use mathlib.Core.Path.{_≡_, ap, _∙_, sym}
 use mathlib.Core.List.{List, []}
 use Prim.Native.Nat.{ℕ, _+_, _≤_, _<_, min}
 use native.Mathlib.Omega.{arith}
 use native.Mathlib.Decide.{decLt}
 use lib.ListN.{length, take, drop}
-use lib.Seq.{take-at, take-all}
+use lib.Seq.{take-at, drop-at, take-all}
 use Rattle.text.specs.Putting.{Put}
-use Rattle.text.proofs.Putting.{counted}
+use Rattle.text.proofs.Putting.{put-none, put-as, counted}
 use Rattle.talk.specs.Saying.{Said}
 
 -- a text that was put at the start of a room, within it
-pub said : {before after : List ℕ} {r : ℕ} {s : List ℕ} → r ≤ length after → Put before 0 s after r → Said after r s
-said {before} {after} {r} {s} h p =
-    record {
-      counts = counted r after h;
-      says = ap (take r) (p .room) ∙ take-at s (drop (0 + length s) before) r (omega (arith, p .next));
-    }
+pub said : {before after : List ℕ} {r : ℕ} {s : List ℕ} → r ≤ length after → Put before 0 s after r → Said before after r s
+said {before} {after} {r} {s} h p = record { counts = counted r after h; put = p }
 
 -- the same text by another name
-pub said-as : {room : List ℕ} {r : ℕ} {s t : List ℕ} → s ≡ t → Said room r s → Said room r t
-said-as e h = record { counts = h .counts; says = h .says ∙ e }
+pub said-as : {before after : List ℕ} {r : ℕ} {s t : List ℕ} → s ≡ t → Said before after r s → Said before after r t
+said-as e h = record { counts = h .counts; put = put-as e (h .put) }
+
+module _ {before after : List ℕ} {r : ℕ} {s : List ℕ} (h : Said before after r s) where
+  -- the text is the first bytes
+  pub first-bytes : take r after ≡ s
+  first-bytes = let p = h .put in ap (take r) (p .room) ∙ take-at s (drop (0 + length s) before) r (omega (arith, p .next))
+
+  -- the others are as they were
+  pub other-bytes : drop r after ≡ drop r before
+  other-bytes =
+      let p = h .put in
+      ap (drop r) (p .room) ∙ drop-at s (drop (0 + length s) before) r (omega (arith, p .next)) ∙ ap (λ (k : ℕ). drop k before) (sym (p .next))
 
 -- more than all of a list is all of it
 pub take-least : (k most : ℕ) (l : List ℕ) → length l ≡ most → take (min k most) l ≡ take k l
@@ -32,5 +39,5 @@ take-least k most l e = by (decLt k most) where
       ap (λ (x : ℕ). take x l) m ∙ take-all most l (omega arith) ∙ sym (take-all k l (omega (arith, h)))
 
 -- nothing is said
-pub silent-said : (room : List ℕ) → Said room 0 []
-silent-said room = record { counts = counted 0 room (omega arith); says = refl }
+pub silent-said : (room : List ℕ) → Said room room 0 []
+silent-said room = said (omega arith) (put-none room 0)

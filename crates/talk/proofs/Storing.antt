@@ -24,7 +24,7 @@ use Rattle.bench.specs.Held.{Stands}
 use Rattle.bench.specs.Calls.{storeAnswer, storedOf, StorePromise}
 use Rattle.bench.proofs.Standing.{full-standing}
 use Rattle.talk.specs.Texts.{hexLine, writtenText}
-use Rattle.talk.specs.Saying.{storedMost, writtenIn}
+use Rattle.talk.specs.Saying.{storedMost, writtenIn, StoresFirst}
 
 -- ---- how long a stored form is
 
@@ -91,10 +91,13 @@ short-enough b (present s) k =
     let c = s .circuit in
     omega (arith, stored-short c (shape-is (c .inputs) (length (c .outs)) (length (c .gates)) (full-standing s (k .sound))))
 
--- what `store` with a room so long says of a bench that stands for p, where at most 2,048 bytes were lent
-pub stored-said : (name : List ℕ) (b : Bench) (size lent : ℕ) (room rest after : List ℕ) (w : Writing) → lent ≡ min size storedMost → length room ≡ lent
-    → StorePromise b room w after → (p : Present) → Stands b p → writtenIn name w (after ++ rest) ≡ writtenText name (storeAnswer p size) (storedOf p)
-stored-said name b size lent room rest after w e l f p k =
-    let short = short-enough b p k in
-    first-said name (storedOf p) room rest after w (storeAnswer p (length room)) (storeAnswer p size) (ap (storeAnswer p) (l ∙ e) ∙ store-least p short size)
-    (store-sized p short size) (f p k .0) (f p k .1)
+-- what was stored in a part of a room, of at most 2,048 bytes, is first in the room
+pub stores-first : (b : Bench) (size lent : ℕ) (room rest after : List ℕ) (w : Writing) → lent ≡ min size storedMost → length room ≡ lent
+    → StorePromise b room w after → StoresFirst b size w (after ++ rest)
+stores-first b size lent room rest after w e l f =
+    record {
+      said = λ name p k.
+          let short = short-enough b p k in
+          first-said name (storedOf p) room rest after w (storeAnswer p (length room)) (storeAnswer p size)
+          (ap (storeAnswer p) (l ∙ e) ∙ store-least p short size) (store-sized p short size) (f p k .0) (f p k .1);
+    }

@@ -16,18 +16,22 @@ use Rattle.bench.specs.declared.Bench.{Bench}
 use Rattle.bench.specs.declared.Report.{Report}
 use Rattle.bench.specs.declared.Reported.{Reported}
 use Rattle.bench.specs.declared.Reported.the-variants.{Given, NotGiven}
+use Rattle.bench.specs.State.{Present}
+use Rattle.bench.specs.Held.{Stands}
+use Rattle.bench.specs.Calls.{storeAnswer, storedOf}
 use Rattle.bench.specs.Parts.{standing}
 use Rattle.script.specs.declared.Part.{Part}
 use Rattle.script.specs.Order.{bytesOf}
 use Rattle.text.specs.Numbers.{labelled}
+use Rattle.text.specs.Putting.{Put}
 use Rattle.listing.specs.Printed.{newLine, refusedText, countsText, linesIn, linesTo}
 use Rattle.talk.specs.Words.{andDepthName, heldName}
 use Rattle.talk.specs.Texts.{verdictText, hexLine, writtenText, groupText, valuesText}
 
--- a text is the first `len` bytes of a room
-pub record Said (room : List ℕ) (len : ℕ) (text : List ℕ) : Type 0 where
-  pub counts : Counts len room
-  pub says : take len room ≡ text
+-- a text was put first in a room, within it: `len` bytes, and past them the room is as it was
+pub record Said (before after : List ℕ) (len : ℕ) (text : List ℕ) : Type 0 where
+  pub counts : Counts len after
+  pub put : Put before 0 text after len
 
 -- more than any stored form has
 abbrev pub storedMost : ℕ
@@ -72,6 +76,10 @@ pub record Laid (line room : List ℕ) (p q : Part) (mid end : ℕ) : Type 0 whe
 -- as many bytes as the words of one line can say
 abbrev pub hexMost : ℕ
 hexMost = 32768
+
+-- what a bench stored for a room so long stands first in a room, or the refusal is told
+pub record StoresFirst (b : Bench) (size : ℕ) (r : Writing) (room : List ℕ) : Type 0 where
+  pub said : (name : List ℕ) (p : Present) → Stands b p → writtenIn name r room ≡ writtenText name (storeAnswer p size) (storedOf p)
 
 -- what was built for a room so long stands first in a room, or the refusal is told
 pub record BuildsFirst (n : ℕ) (ts : List ℕ) (D size : ℕ) (r : Writing) (room : List ℕ) : Type 0 where

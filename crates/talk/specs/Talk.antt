@@ -1,8 +1,8 @@
--- What is present after a line and what is answered to it, given what is present before; what `answer_line` promises of both.
+-- What a line does to the bench and what is answered to it, given what is present before; what `answer_line` promises of both.
 use mathlib.Core.Path.{_≡_}
 use mathlib.Core.List.{List, [], _∷_, _++_}
 use Prim.Native.Nat.{ℕ}
-use lib.ListN.{take}
+use lib.ListN.{take, drop, replicate}
 use Rattle.io.specs.Counts.{Counts}
 use Rattle.circuit.specs.Stored.{stored}
 use Rattle.distance.specs.Query.{answerOf}
@@ -11,30 +11,47 @@ use Rattle.bench.specs.declared.Bench.{Bench}
 use Rattle.bench.specs.Target.{matrix, table}
 use Rattle.bench.specs.State.{Present, nothing, limits}
 use Rattle.bench.specs.Held.{benchOf, Stands}
-use Rattle.bench.specs.Calls.{afterOpen, afterGate, afterOutput, afterEntry, afterLimits, openAnswer, gateEdit, outputEditAnswer, entryEditAnswer, limitsAnswer, noRework, reported, storeAnswer, storedOf}
+use Rattle.bench.specs.Calls.{openAnswer, gateEdit, outputEditAnswer, entryEditAnswer, limitsAnswer, noRework, reported, storeAnswer, storedOf}
+use Rattle.bench.specs.Run.{Call, presentFrom}
+use Rattle.bench.specs.Run.Call.{opening, replacing, pointing, changing, limiting, reporting, storing}
 use Rattle.script.specs.Order.{Order, silent, unreadable, askNew, askOpenMatrix, askOpenTable, askReport, askGate, askOutput, askEntry, askLimits, askStore, askHeld, askShow, askBuild, askDistance}
 use Rattle.script.specs.Reading.{orderIn}
 use Rattle.talk.specs.declared.Told.{Told}
 use Rattle.talk.specs.Words.{newText, unreadableText, storedName, builtName}
 use Rattle.talk.specs.Texts.{openText, editText, reportedText, writtenText, distanceText, heldText, showText}
 
--- what is present after a line: only `new`, an open and the edits can change it
-abbrev pub presentAfter : Present → Order → Present
-presentAfter p silent = p
-presentAfter p unreadable = p
-presentAfter p askNew = nothing
-presentAfter p (askOpenMatrix bytes rows g d a) = afterOpen p bytes (matrix rows) (limits g d a)
-presentAfter p (askOpenTable bytes entries g d a) = afterOpen p bytes (table entries) (limits g d a)
-presentAfter p askReport = p
-presentAfter p (askGate k kind a b) = afterGate p k kind a b
-presentAfter p (askOutput j line) = afterOutput p j line
-presentAfter p (askEntry i value) = afterEntry p i value
-presentAfter p (askLimits g d a) = afterLimits p (limits g d a)
-presentAfter p (askStore room) = p
-presentAfter p askHeld = p
-presentAfter p askShow = p
-presentAfter p (askBuild n rows d room) = p
-presentAfter p (askDistance n masks depths t d) = p
+-- what a line does to the bench: it clears it, or makes calls on it
+pub data Deed : Type 0 where
+  clearing : Deed
+  calling : List Call → Deed
+
+-- what each line does: `new` clears the bench; `held` and `show` only look at it, and make none of its calls, as do lines that are not
+-- about it; `store` lends a room of so many bytes
+abbrev pub deedOf : Order → Deed
+deedOf silent = calling []
+deedOf unreadable = calling []
+deedOf askNew = clearing
+deedOf (askOpenMatrix bytes rows g d a) = calling (opening bytes (matrix rows) (limits g d a) ∷ [])
+deedOf (askOpenTable bytes entries g d a) = calling (opening bytes (table entries) (limits g d a) ∷ [])
+deedOf askReport = calling (reporting ∷ [])
+deedOf (askGate k kind a b) = calling (replacing k kind a b ∷ [])
+deedOf (askOutput j line) = calling (pointing j line ∷ [])
+deedOf (askEntry i value) = calling (changing i value ∷ [])
+deedOf (askLimits g d a) = calling (limiting (limits g d a) ∷ [])
+deedOf (askStore room) = calling (storing (replicate room 0) ∷ [])
+deedOf askHeld = calling []
+deedOf askShow = calling []
+deedOf (askBuild n rows d room) = calling []
+deedOf (askDistance n masks depths t d) = calling []
+
+-- what is present after a deed
+abbrev pub presentBy : Present → Deed → Present
+presentBy p clearing = nothing
+presentBy p (calling calls) = presentFrom p calls
+
+-- what is present after a line
+abbrev pub presentAfterLine : Present → Order → Present
+presentAfterLine p o = presentBy p (deedOf o)
 
 -- what is answered
 abbrev pub textOf : Present → Order → List ℕ
@@ -54,13 +71,34 @@ textOf p askShow = showText p
 textOf p (askBuild n rows d room) = writtenText builtName (buildAnswer n rows d room) (stored (built n rows d))
 textOf p (askDistance n masks depths t d) = distanceText (answerOf n masks depths t d)
 
--- all that is written for some lines, one after the other
+-- what is present after some lines, one after the other
+abbrev pub presentAfterLines : Present → List (List ℕ) → Present
+presentAfterLines p [] = p
+presentAfterLines p (line ∷ lines) = presentAfterLines (presentAfterLine p (orderIn line)) lines
+
+-- all that is written for them
 abbrev pub written : Present → List (List ℕ) → List ℕ
 written p [] = []
-written p (line ∷ lines) = textOf p (orderIn line) ++ written (presentAfter p (orderIn line)) lines
+written p (line ∷ lines) = textOf p (orderIn line) ++ written (presentAfterLine p (orderIn line)) lines
 
--- the bench after a line and the answer, first in the room: always within it, and on a bench that stands for p just what the two above say
-pub record Answers (b : Bench) (o : Order) (out : List ℕ) (r : Told) : Type 0 where
-  pub counts : Counts (r .len) out
-  pub bench : (p : Present) → Stands b p → r .bench ≡ benchOf (presentAfter p o)
-  pub text : (p : Present) → Stands b p → take (r .len) out ≡ textOf p o
+-- the calls since the bench was last cleared, after one deed more
+abbrev pub callsBy : List Call → Deed → List Call
+callsBy made clearing = []
+callsBy made (calling calls) = made ++ calls
+
+-- and after some lines
+abbrev pub callsOn : List Call → List (List ℕ) → List Call
+callsOn made [] = made
+callsOn made (line ∷ lines) = callsOn (callsBy made (deedOf (orderIn line))) lines
+
+-- the calls that typed lines make, since the last `new`
+abbrev pub callsTyped : List (List ℕ) → List Call
+callsTyped lines = callsOn [] lines
+
+-- the bench after a line and the answer, first in the room, which held `out` and holds `after`: on every bench the answer is within
+-- the room, and past it the room is as it was; on a bench that stands for p the two are what `presentAfterLine` and `textOf` say
+pub record Answers (b : Bench) (o : Order) (out after : List ℕ) (r : Told) : Type 0 where
+  pub counts : Counts (r .len) after
+  pub rest : drop (r .len) after ≡ drop (r .len) out
+  pub bench : (p : Present) → Stands b p → r .bench ≡ benchOf (presentAfterLine p o)
+  pub text : (p : Present) → Stands b p → take (r .len) after ≡ textOf p o

@@ -11,7 +11,7 @@ use Rattle.circuit.specs.declared.Refusal.the-variants.{NothingOpen}
 use Rattle.circuit.specs.Lines.{Listing, gateAt, upto, values, depths, andDepths, depthOf, andDepthOf}
 use Rattle.distance.specs.declared.Answer.{Answer as Distance}
 use Rattle.distance.specs.declared.Answer.the-variants.{Gates, Never, Refused as NotAsked}
-use Rattle.distance.specs.Query.{refusalNo as distanceNo}
+use Rattle.distance.specs.Query.{queryRefusalNo}
 use Rattle.bench.specs.declared.Verdict.{Verdict}
 use Rattle.bench.specs.declared.Verdict.the-variants.{Wrong, OverGates, OverDepth, OverAndDepth, Pass}
 use Rattle.bench.specs.declared.Report.{Report}
@@ -77,7 +77,7 @@ writtenText name (NotWritten w) bytes = refusedText w
 abbrev pub distanceText : Distance → List ℕ
 distanceText (Gates x) = labelled distanceName x ++ newLine
 distanceText Never = distanceName ++ noneName ++ newLine
-distanceText (NotAsked w) = labelled refusedName (distanceNo w) ++ newLine
+distanceText (NotAsked w) = labelled refusedName (queryRefusalNo w) ++ newLine
 
 -- ---- held
 

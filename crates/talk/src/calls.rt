@@ -11,7 +11,8 @@ ghost use Rattle.script.specs.Order.{bytesOf, unreadable, askNew, askReport, as
 ghost use Rattle.script.specs.Placed.{HexPart, HexParts};
 ghost use Rattle.talk.specs.Texts.{editText, openText};
 ghost use Rattle.talk.specs.Talk.{Answers};
-ghost use Rattle.talk.specs.Saying.{Said, Laid, BuildsFirst, storedMost, hexMost};
+ghost use Rattle.talk.specs.Saying.{Said, Laid, StoresFirst, BuildsFirst, storedMost, hexMost};
+use crate::HEX;
 use crate::OUT;
 use crate::STORED;
 use crate::Told;
@@ -50,7 +51,7 @@ use text::at_most;
 
 // A line that is no call.
 pub(crate) fn tell_unreadable(b: Bench, out: &mut [u8; OUT]) -> Told
-    ensures { λ r. ⌜ Answers b unreadable (now (out .exit)) r ⌝ }
+    ensures { λ r. ⌜ Answers b unreadable (now (out .entry)) (now (out .exit)) r ⌝ }
 {
     let len = say(out, b"unreadable\n");
     Told { bench: b, len }
@@ -58,7 +59,7 @@ pub(crate) fn tell_unreadable(b: Bench, out: &mut [u8; OUT]) -> Told
 
 // `new`: a bench with nothing open, whatever stood on it.
 pub(crate) fn tell_new(b: Bench, out: &mut [u8; OUT]) -> Told
-    ensures { λ r. ⌜ Answers b askNew (now (out .exit)) r ⌝ }
+    ensures { λ r. ⌜ Answers b askNew (now (out .entry)) (now (out .exit)) r ⌝ }
 {
     let len = say(out, b"new\n");
     let bench = empty();
@@ -87,7 +88,7 @@ fn lay_two(line: &[u8], p: Part, q: Part, room: &mut [u8]) -> Ends
 
 // An open's answer, with the bench after it.
 fn told_open(done: Opened, out: &mut [u8; OUT]) -> Told
-    ensures { λ r. ⌜ (r .bench ≡ done .bench) × Said (now (out .exit)) (r .len) (openText (done .answer)) ⌝ }
+    ensures { λ r. ⌜ (r .bench ≡ done .bench) × Said (now (out .entry)) (now (out .exit)) (r .len) (openText (done .answer)) ⌝ }
 {
     let answer = done.answer;
     let len = say_opened(out, answer);
@@ -115,22 +116,22 @@ pub(crate) fn tell_open(
     line: &[u8],
     matrix: bool,
     o: Opening,
-    room: &mut [u8],
     out: &mut [u8; OUT],
 ) -> Told
-    requires { ⌜ HexParts (now line) (o .bytes) (o .target) × (hexMost ≤ length (now room)) ⌝ }
-    ensures { λ r. ⌜ Answers b (askOpen matrix (bytesOf (now (line .entry)) (o .bytes)) (bytesOf (now (line .entry)) (o .target)) (o .gates) (o .depth) (o .ands)) (now (out .exit)) r ⌝ }
+    requires { ⌜ HexParts (now line) (o .bytes) (o .target) ⌝ }
+    ensures { λ r. ⌜ Answers b (askOpen matrix (bytesOf (now (line .entry)) (o .bytes)) (bytesOf (now (line .entry)) (o .target)) (o .gates) (o .depth) (o .ands)) (now (out .entry)) (now (out .exit)) r ⌝ }
 {
     let bytes = o.bytes;
     let target = o.target;
-    let ends = lay_two(line, bytes, target, room);
-    let done = open_parts(b, matrix, room, ends, o);
+    let mut room = [0u8; HEX];
+    let ends = lay_two(line, bytes, target, &mut room);
+    let done = open_parts(b, matrix, &room, ends, o);
     told_open(done, out)
 }
 
 // `report`.
 pub(crate) fn tell_report(b: Bench, out: &mut [u8; OUT]) -> Told
-    ensures { λ r. ⌜ Answers b askReport (now (out .exit)) r ⌝ }
+    ensures { λ r. ⌜ Answers b askReport (now (out .entry)) (now (out .exit)) r ⌝ }
 {
     let reported = report(b);
     let len = say_reported(out, reported);
@@ -139,7 +140,7 @@ pub(crate) fn tell_report(b: Bench, out: &mut [u8; OUT]) -> Told
 
 // An edit's answer, with the bench after it.
 fn told_edit(done: Edited, out: &mut [u8; OUT]) -> Told
-    ensures { λ r. ⌜ (r .bench ≡ done .bench) × Said (now (out .exit)) (r .len) (editText (done .edit)) ⌝ }
+    ensures { λ r. ⌜ (r .bench ≡ done .bench) × Said (now (out .entry)) (now (out .exit)) (r .len) (editText (done .edit)) ⌝ }
 {
     let edit = done.edit;
     let len = say_edit(out, edit);
@@ -149,75 +150,79 @@ fn told_edit(done: Edited, out: &mut [u8; OUT]) -> Told
 
 // `gate K KIND A B`.
 pub(crate) fn tell_gate(b: Bench, e: GateEdit, out: &mut [u8; OUT]) -> Told
-    ensures { λ r. ⌜ Answers b (askGate (e .k) (e .kind) (e .a) (e .b)) (now (out .exit)) r ⌝ }
+    ensures { λ r. ⌜ Answers b (askGate (e .k) (e .kind) (e .a) (e .b)) (now (out .entry)) (now (out .exit)) r ⌝ }
 {
     told_edit(replace_gate(b, e.k, e.kind, e.a, e.b), out)
 }
 
 // `output J LINE`.
 pub(crate) fn tell_output(b: Bench, e: OutputEdit, out: &mut [u8; OUT]) -> Told
-    ensures { λ r. ⌜ Answers b (askOutput (e .j) (e .line)) (now (out .exit)) r ⌝ }
+    ensures { λ r. ⌜ Answers b (askOutput (e .j) (e .line)) (now (out .entry)) (now (out .exit)) r ⌝ }
 {
     told_edit(point_output(b, e.j, e.line), out)
 }
 
 // `entry I VALUE`.
 pub(crate) fn tell_entry(b: Bench, e: EntryEdit, out: &mut [u8; OUT]) -> Told
-    ensures { λ r. ⌜ Answers b (askEntry (e .i) (e .value)) (now (out .exit)) r ⌝ }
+    ensures { λ r. ⌜ Answers b (askEntry (e .i) (e .value)) (now (out .entry)) (now (out .exit)) r ⌝ }
 {
     told_edit(change_entry(b, e.i, e.value), out)
 }
 
 // `limits G D A`.
 pub(crate) fn tell_limits(b: Bench, e: LimitsEdit, out: &mut [u8; OUT]) -> Told
-    ensures { λ r. ⌜ Answers b (askLimits (e .gates) (e .depth) (e .ands)) (now (out .exit)) r ⌝ }
+    ensures { λ r. ⌜ Answers b (askLimits (e .gates) (e .depth) (e .ands)) (now (out .entry)) (now (out .exit)) r ⌝ }
 {
     told_edit(set_limits(b, e.gates, e.depth, e.ands), out)
 }
 
-// `store ROOM`: a longer room than any stored form needs is lent no longer than that.
-pub(crate) fn tell_store(b: Bench, size: usize, room: &mut [u8], out: &mut [u8; OUT]) -> Told
+// What is stored stands first in the room: a longer one than any stored form needs is lent no longer than that.
+fn store_in(b: Bench, size: usize, room: &mut [u8]) -> Writing
     requires { ⌜ storedMost ≤ length (now room) ⌝ }
-    ensures { λ r. ⌜ Answers b (askStore size) (now (out .exit)) r ⌝ }
+    ensures { λ r. ⌜ StoresFirst b size r (now (room .exit)) ⌝ }
 {
     let lent = at_most(size, STORED);
-    let writing = store(b, &mut room[..lent]);
-    let len = say_written(out, b"stored ", writing, room);
+    store(b, &mut room[..lent])
+}
+
+// `store ROOM`.
+pub(crate) fn tell_store(b: Bench, size: usize, out: &mut [u8; OUT]) -> Told
+    ensures { λ r. ⌜ Answers b (askStore size) (now (out .entry)) (now (out .exit)) r ⌝ }
+{
+    let mut room = [0u8; STORED];
+    let writing = store_in(b, size, &mut room);
+    let len = say_written(out, b"stored ", writing, &room);
     Told { bench: b, len }
 }
 
-// The rows are laid in one room, and built into the other: a longer one than any stored form needs is lent no longer than that.
-fn build_in(line: &[u8], q: BuildCall, rows: &mut [u8], room: &mut [u8]) -> Writing
-    requires { ⌜ HexPart (now line) (q .rows) × (hexMost ≤ length (now rows)) × (storedMost ≤ length (now room)) ⌝ }
+// What is built stands first in the room, lent as it is for a store.
+fn build_in(line: &[u8], q: BuildCall, room: &mut [u8]) -> Writing
+    requires { ⌜ HexPart (now line) (q .rows) × (storedMost ≤ length (now room)) ⌝ }
     ensures { λ r. ⌜ BuildsFirst (q .n) (bytesOf (now (line .entry)) (q .rows)) (q .d) (q .room) r (now (room .exit)) ⌝ }
 {
     let part = q.rows;
     let from = part.from;
     let to = part.to;
-    let end = text::put_unhex(rows, 0, &line[from..to]);
+    let mut rows = [0u8; HEX];
+    let end = text::put_unhex(&mut rows, 0, &line[from..to]);
     let lent = at_most(q.room, STORED);
     build(q.n, &rows[..end], q.d, &mut room[..lent])
 }
 
-// `build N ROWSHEX D ROOM`. The answer's room holds the rows until there is an answer.
-pub(crate) fn tell_build(
-    b: Bench,
-    line: &[u8],
-    q: BuildCall,
-    room: &mut [u8],
-    out: &mut [u8; OUT],
-) -> Told
-    requires { ⌜ HexPart (now line) (q .rows) × (storedMost ≤ length (now room)) ⌝ }
-    ensures { λ r. ⌜ Answers b (askBuild (q .n) (bytesOf (now (line .entry)) (q .rows)) (q .d) (q .room)) (now (out .exit)) r ⌝ }
+// `build N ROWSHEX D ROOM`.
+pub(crate) fn tell_build(b: Bench, line: &[u8], q: BuildCall, out: &mut [u8; OUT]) -> Told
+    requires { ⌜ HexPart (now line) (q .rows) ⌝ }
+    ensures { λ r. ⌜ Answers b (askBuild (q .n) (bytesOf (now (line .entry)) (q .rows)) (q .d) (q .room)) (now (out .entry)) (now (out .exit)) r ⌝ }
 {
-    let writing = build_in(line, q, out, room);
-    let len = say_written(out, b"built ", writing, room);
+    let mut room = [0u8; STORED];
+    let writing = build_in(line, q, &mut room);
+    let len = say_written(out, b"built ", writing, &room);
     Told { bench: b, len }
 }
 
 // `held`.
 pub(crate) fn tell_held(b: Bench, out: &mut [u8; OUT]) -> Told
-    ensures { λ r. ⌜ Answers b askHeld (now (out .exit)) r ⌝ }
+    ensures { λ r. ⌜ Answers b askHeld (now (out .entry)) (now (out .exit)) r ⌝ }
 {
     let len = say_held(out, b);
     Told { bench: b, len }
@@ -225,7 +230,7 @@ pub(crate) fn tell_held(b: Bench, out: &mut [u8; OUT]) -> Told
 
 // `show`: lines and verdict of one and the same bench.
 pub(crate) fn tell_show(b: Bench, out: &mut [u8; OUT]) -> Told
-    ensures { λ r. ⌜ Answers b askShow (now (out .exit)) r ⌝ }
+    ensures { λ r. ⌜ Answers b askShow (now (out .entry)) (now (out .exit)) r ⌝ }
 {
     let circuit = circuit_of(b);
     let reported = report(b);
@@ -244,20 +249,15 @@ fn distance_parts(n: usize, room: &[u8], ends: Ends, target: usize, d: usize) ->
 }
 
 // `distance N MASKSHEX DEPTHSHEX T D`.
-pub(crate) fn tell_distance(
-    b: Bench,
-    line: &[u8],
-    q: DistanceCall,
-    room: &mut [u8],
-    out: &mut [u8; OUT],
-) -> Told
-    requires { ⌜ HexParts (now line) (q .masks) (q .depths) × (hexMost ≤ length (now room)) ⌝ }
-    ensures { λ r. ⌜ Answers b (askDistance (q .n) (bytesOf (now (line .entry)) (q .masks)) (bytesOf (now (line .entry)) (q .depths)) (q .target) (q .d)) (now (out .exit)) r ⌝ }
+pub(crate) fn tell_distance(b: Bench, line: &[u8], q: DistanceCall, out: &mut [u8; OUT]) -> Told
+    requires { ⌜ HexParts (now line) (q .masks) (q .depths) ⌝ }
+    ensures { λ r. ⌜ Answers b (askDistance (q .n) (bytesOf (now (line .entry)) (q .masks)) (bytesOf (now (line .entry)) (q .depths)) (q .target) (q .d)) (now (out .entry)) (now (out .exit)) r ⌝ }
 {
     let masks = q.masks;
     let depths = q.depths;
-    let ends = lay_two(line, masks, depths, room);
-    let answer = distance_parts(q.n, room, ends, q.target, q.d);
+    let mut room = [0u8; HEX];
+    let ends = lay_two(line, masks, depths, &mut room);
+    let answer = distance_parts(q.n, &room, ends, q.target, q.d);
     let len = say_distance(out, answer);
     Told { bench: b, len }
 }

@@ -69,7 +69,7 @@ fn put_groups(room: &mut [u8], at: usize, b: Bench) -> usize
 // `held COUNT LINE:DEPTH:ANDDEPTH:VALUES ..`.
 fn say_lines(out: &mut [u8; OUT], b: Bench) -> usize
     requires { ⌜ (b .n ≤ 8) × (b .g ≤ 248) ⌝ }
-    ensures { λ r. ⌜ Said (now (out .exit)) r (linesHeldIn b) ⌝ }
+    ensures { λ r. ⌜ Said (now (out .entry)) (now (out .exit)) r (linesHeldIn b) ⌝ }
 {
     let counted = put_labelled(out, 0, b"held ", b.n + b.g);
     let end = put_groups(out, counted, b);
@@ -78,7 +78,7 @@ fn say_lines(out: &mut [u8; OUT], b: Bench) -> usize
 
 // What `held` answers.
 pub(crate) fn say_held(out: &mut [u8; OUT], b: Bench) -> usize
-    ensures { λ r. ⌜ Said (now (out .exit)) r (heldIn b) ⌝ }
+    ensures { λ r. ⌜ Said (now (out .entry)) (now (out .exit)) r (heldIn b) ⌝ }
 {
     if b.is_open {
         if is_shape(b.n, b.m, b.g) {

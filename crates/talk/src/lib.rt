@@ -20,30 +20,33 @@ pub struct Told {
 // The room that an answer is put in: longer than any answer, the longest being `held` of 256 lines.
 pub const OUT: usize = 32768;
 
+// As many bytes as the words of one line can say in hexadecimal digits.
+pub(crate) const HEX: usize = 32768;
+
 // More than any stored form has: 5 + 5 * 248 + 3 * 32 bytes.
 pub(crate) const STORED: usize = 2048;
 
-// The answer to a line of the call language: the bench after it, and the answer's bytes first in `out`. The room holds what
-// the line's words say in hexadecimal digits, and what is stored or built.
-pub fn answer_line(b: Bench, line: &[u8], room: &mut [u8; OUT], out: &mut [u8; OUT]) -> Told
-    ensures { λ r. ⌜ Answers b (orderIn (now (line .entry))) (now (out .exit)) r ⌝ }
+// The answer to a line of the call language: the bench after it, and the answer's bytes first in `out`, which is past them as
+// it was.
+pub fn answer_line(b: Bench, line: &[u8], out: &mut [u8; OUT]) -> Told
+    ensures { λ r. ⌜ Answers b (orderIn (now (line .entry))) (now (out .entry)) (now (out .exit)) r ⌝ }
 {
     let call = call_in(line);
     match call {
         Call::Silent => Told { bench: b, len: 0 },
         Call::Unreadable => calls::tell_unreadable(b, out),
         Call::New => calls::tell_new(b, out),
-        Call::OpenMatrix(o) => calls::tell_open(b, line, true, o, room, out),
-        Call::OpenTable(o) => calls::tell_open(b, line, false, o, room, out),
+        Call::OpenMatrix(o) => calls::tell_open(b, line, true, o, out),
+        Call::OpenTable(o) => calls::tell_open(b, line, false, o, out),
         Call::Report => calls::tell_report(b, out),
         Call::Gate(e) => calls::tell_gate(b, e, out),
         Call::Output(e) => calls::tell_output(b, e, out),
         Call::Entry(e) => calls::tell_entry(b, e, out),
         Call::Limits(e) => calls::tell_limits(b, e, out),
-        Call::Store(size) => calls::tell_store(b, size, room, out),
+        Call::Store(size) => calls::tell_store(b, size, out),
         Call::Held => calls::tell_held(b, out),
         Call::Show => calls::tell_show(b, out),
-        Call::Build(q) => calls::tell_build(b, line, q, room, out),
-        Call::Distance(q) => calls::tell_distance(b, line, q, room, out),
+        Call::Build(q) => calls::tell_build(b, line, q, out),
+        Call::Distance(q) => calls::tell_distance(b, line, q, out),
     }
 }

@@ -24,14 +24,14 @@ use text::put_labelled;
 // A fixed line.
 pub(crate) fn say(out: &mut [u8; OUT], line: &[u8]) -> usize
     requires { ⌜ length (now line) ≤ 64 ⌝ }
-    ensures { λ r. ⌜ Said (now (out .exit)) r (now (line .entry)) ⌝ }
+    ensures { λ r. ⌜ Said (now (out .entry)) (now (out .exit)) r (now (line .entry)) ⌝ }
 {
     text::put(out, 0, line)
 }
 
 // `refused N`.
 pub(crate) fn say_refused(out: &mut [u8; OUT], why: Refusal) -> usize
-    ensures { λ r. ⌜ Said (now (out .exit)) r (refusedText why) ⌝ }
+    ensures { λ r. ⌜ Said (now (out .entry)) (now (out .exit)) r (refusedText why) ⌝ }
 {
     listing::put_refused(out, why)
 }
@@ -68,7 +68,7 @@ fn put_tally(room: &mut [u8], gates: usize, counts: Tally) -> usize
 
 // The report.
 pub(crate) fn say_report(out: &mut [u8; OUT], r: Report) -> usize
-    ensures { λ n. ⌜ Said (now (out .exit)) n (reportText r) ⌝ }
+    ensures { λ n. ⌜ Said (now (out .entry)) (now (out .exit)) n (reportText r) ⌝ }
 {
     let counts = r.counts;
     let verdict = r.verdict;
@@ -82,7 +82,7 @@ pub(crate) fn say_report(out: &mut [u8; OUT], r: Report) -> usize
 
 // What a report answers.
 pub(crate) fn say_reported(out: &mut [u8; OUT], r: Reported) -> usize
-    ensures { λ n. ⌜ Said (now (out .exit)) n (reportedText r) ⌝ }
+    ensures { λ n. ⌜ Said (now (out .entry)) (now (out .exit)) n (reportedText r) ⌝ }
 {
     match r {
         Reported::Given(report) => say_report(out, report),
@@ -92,7 +92,7 @@ pub(crate) fn say_reported(out: &mut [u8; OUT], r: Reported) -> usize
 
 // What an open answers.
 pub(crate) fn say_opened(out: &mut [u8; OUT], answer: Answer) -> usize
-    ensures { λ r. ⌜ Said (now (out .exit)) r (openText answer) ⌝ }
+    ensures { λ r. ⌜ Said (now (out .entry)) (now (out .exit)) r (openText answer) ⌝ }
 {
     match answer {
         Answer::Done => say(out, b"opened\n"),
@@ -102,7 +102,7 @@ pub(crate) fn say_opened(out: &mut [u8; OUT], answer: Answer) -> usize
 
 // `reworked COUNT LINE LINE ..`. No edit reworks more than 256 lines; the test keeps to the array on a bench that no calls yield.
 fn say_reworked(out: &mut [u8; OUT], count: usize, lines: [u8; 256]) -> usize
-    ensures { λ r. ⌜ Said (now (out .exit)) r (reworkedText count lines) ⌝ }
+    ensures { λ r. ⌜ Said (now (out .entry)) (now (out .exit)) r (reworkedText count lines) ⌝ }
 {
     let shown = at_most(count, 256);
     let counted = put_labelled(out, 0, b"reworked ", count);
@@ -112,7 +112,7 @@ fn say_reworked(out: &mut [u8; OUT], count: usize, lines: [u8; 256]) -> usize
 
 // What an edit answers.
 pub(crate) fn say_edit(out: &mut [u8; OUT], e: Edit) -> usize
-    ensures { λ r. ⌜ Said (now (out .exit)) r (editText e) ⌝ }
+    ensures { λ r. ⌜ Said (now (out .entry)) (now (out .exit)) r (editText e) ⌝ }
 {
     let answer = e.answer;
     let lines = e.lines;
@@ -126,7 +126,7 @@ pub(crate) fn say_edit(out: &mut [u8; OUT], e: Edit) -> usize
 // test keeps to the answer's room on a bench that no calls yield.
 fn say_bytes(out: &mut [u8; OUT], name: &[u8], count: usize, room: &[u8]) -> usize
     requires { ⌜ (length (now name) ≤ 64) × (storedMost ≤ length (now room)) ⌝ }
-    ensures { λ r. ⌜ Said (now (out .exit)) r (hexLine (now (name .entry)) count (take (min count storedMost) (now (room .entry)))) ⌝ }
+    ensures { λ r. ⌜ Said (now (out .entry)) (now (out .exit)) r (hexLine (now (name .entry)) count (take (min count storedMost) (now (room .entry)))) ⌝ }
 {
     let shown = at_most(count, STORED);
     let counted = put_labelled(out, 0, name, count);
@@ -138,7 +138,7 @@ fn say_bytes(out: &mut [u8; OUT], name: &[u8], count: usize, room: &[u8]) -> usi
 // What was written first in a room, or why nothing was.
 pub(crate) fn say_written(out: &mut [u8; OUT], name: &[u8], writing: Writing, room: &[u8]) -> usize
     requires { ⌜ (length (now name) ≤ 64) × (storedMost ≤ length (now room)) ⌝ }
-    ensures { λ r. ⌜ Said (now (out .exit)) r (writtenIn (now (name .entry)) writing (now (room .entry))) ⌝ }
+    ensures { λ r. ⌜ Said (now (out .entry)) (now (out .exit)) r (writtenIn (now (name .entry)) writing (now (room .entry))) ⌝ }
 {
     match writing {
         Writing::Written(count) => say_bytes(out, name, count, room),
@@ -149,7 +149,7 @@ pub(crate) fn say_written(out: &mut [u8; OUT], name: &[u8], writing: Writing, ro
 // A name and a number.
 fn say_number(out: &mut [u8; OUT], name: &[u8], x: usize) -> usize
     requires { ⌜ length (now name) ≤ 64 ⌝ }
-    ensures { λ r. ⌜ Said (now (out .exit)) r (labelled (now (name .entry)) x ++ newLine) ⌝ }
+    ensures { λ r. ⌜ Said (now (out .entry)) (now (out .exit)) r (labelled (now (name .entry)) x ++ newLine) ⌝ }
 {
     let end = put_labelled(out, 0, name, x);
     text::put(out, end, b"\n")
@@ -157,7 +157,7 @@ fn say_number(out: &mut [u8; OUT], name: &[u8], x: usize) -> usize
 
 // What a distance query answers.
 pub(crate) fn say_distance(out: &mut [u8; OUT], answer: distance::Answer) -> usize
-    ensures { λ r. ⌜ Said (now (out .exit)) r (distanceText answer) ⌝ }
+    ensures { λ r. ⌜ Said (now (out .entry)) (now (out .exit)) r (distanceText answer) ⌝ }
 {
     match answer {
         distance::Answer::Gates(gates) => say_number(out, b"distance ", wide(gates)),

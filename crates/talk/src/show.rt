@@ -11,7 +11,7 @@ use text::put_labelled;
 
 // The counts and both depths, the lines of gates and outputs, the verdict.
 fn say_circuit(out: &mut [u8; OUT], c: Circuit, r: Report) -> usize
-    ensures { λ n. ⌜ Said (now (out .exit)) n (shownWith c r) ⌝ }
+    ensures { λ n. ⌜ Said (now (out .entry)) (now (out .exit)) n (shownWith c r) ⌝ }
 {
     let verdict = r.verdict;
     let counted = listing::put_counts(out, c.n, c.m, c.g, r.depth);
@@ -24,7 +24,7 @@ fn say_circuit(out: &mut [u8; OUT], c: Circuit, r: Report) -> usize
 
 // What `show` answers: a circuit with the report of the bench that it stands on.
 pub(crate) fn say_show(out: &mut [u8; OUT], c: Circuit, r: Reported) -> usize
-    ensures { λ n. ⌜ Said (now (out .exit)) n (shownIn c r) ⌝ }
+    ensures { λ n. ⌜ Said (now (out .entry)) (now (out .exit)) n (shownIn c r) ⌝ }
 {
     match r {
         Reported::Given(report) => say_circuit(out, c, report),

@@ -5,7 +5,7 @@ use mathlib.Core.List.{List, [], _∷_, _++_}
 use Prim.Native.Nat.{ℕ, suc, _+_, _<_}
 use native.Mathlib.Omega.{arith}
 use lib.ListN.{length}
-use Rattle.text.specs.Places.{run}
+use Rattle.text.specs.Places.{leading}
 
 -- a count that stops within the list, one byte earlier
 below : (t : Bool) (n m k : ℕ) → (n < m → k ≡ n) → cond t (suc n) 0 < suc m → cond t (suc k) 0 ≡ cond t (suc n) 0
@@ -13,10 +13,10 @@ below true n m k f h = ap suc (f (omega arith))
 below false n m k f h = refl
 
 -- a line's end that was found stays where it is, whatever is read after it
-pub found-stays : (p : ℕ → Bool) (s t : List ℕ) → run p s < length s → run p (s ++ t) ≡ run p s
-unfolding run
+pub found-stays : (p : ℕ → Bool) (s t : List ℕ) → leading p s < length s → leading p (s ++ t) ≡ leading p s
+unfolding leading
 found-stays p [] t h = absurd (omega arith)
-found-stays p (x ∷ xs) t h = below (p x) (run p xs) (length xs) (run p (xs ++ t)) (found-stays p xs t) h
+found-stays p (x ∷ xs) t h = below (p x) (leading p xs) (length xs) (leading p (xs ++ t)) (found-stays p xs t) h
 
 -- a count that reaches the end, one byte earlier
 within : (t : Bool) (n m k l : ℕ) → (n ≡ m → k ≡ m + l) → cond t (suc n) 0 ≡ suc m → cond t (suc k) 0 ≡ suc m + l
@@ -24,7 +24,7 @@ within true n m k l f h = omega (arith, f (omega arith))
 within false n m k l f h = absurd (omega arith)
 
 -- where none was found, the search goes on in what is read next: bytes that were seen need not be looked at again
-pub none-goes-on : (p : ℕ → Bool) (s t : List ℕ) → run p s ≡ length s → run p (s ++ t) ≡ length s + run p t
-unfolding run
+pub none-goes-on : (p : ℕ → Bool) (s t : List ℕ) → leading p s ≡ length s → leading p (s ++ t) ≡ length s + leading p t
+unfolding leading
 none-goes-on p [] t h = omega arith
-none-goes-on p (x ∷ xs) t h = within (p x) (run p xs) (length xs) (run p (xs ++ t)) (run p t) (none-goes-on p xs t) h
+none-goes-on p (x ∷ xs) t h = within (p x) (leading p xs) (length xs) (leading p (xs ++ t)) (leading p t) (none-goes-on p xs t) h

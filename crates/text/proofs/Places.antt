@@ -9,7 +9,7 @@ use lib.Dec.{eqb}
 use borrow.Author.Tests.{eq-eqb, ne-eqb}
 use lib.ListN.{length, getD, take, drop, drop-of-length-le, length-drop}
 use lib.Seq.{drop-cons, drop-drop, length-take-le}
-use Rattle.text.specs.Places.{run, upTo, past, sameList, trimLen, skipped, headWord, tailWords, Next}
+use Rattle.text.specs.Places.{leading, upTo, past, sameList, trimLen, skipped, headWord, tailWords, NextWord}
 
 -- two tests that passed
 pub both : (t : Bool) {u : Bool} → cond t u false ≡ true → (t ≡ true) × (u ≡ true)
@@ -20,26 +20,26 @@ both false e = let z : _≡_ {A = ℕ} 0 1 = cc in absurd (omega arith)
 
 module _ (p : ℕ → Bool) (s : List ℕ) (i : ℕ) where
   -- the first of them fails
-  pub run-here : i < length s → p (getD s i 0) ≡ false → run p (drop i s) ≡ 0
-  unfolding run
+  pub run-here : i < length s → p (getD s i 0) ≡ false → leading p (drop i s) ≡ 0
+  unfolding leading
   run-here h e = rw (drop-cons s i 0, e)
 
   -- the first of them passes
-  pub run-next : i < length s → p (getD s i 0) ≡ true → run p (drop i s) ≡ suc (run p (drop (i + 1) s))
-  unfolding run
+  pub run-next : i < length s → p (getD s i 0) ≡ true → leading p (drop i s) ≡ suc (leading p (drop (i + 1) s))
+  unfolding leading
   run-next h e = rw (add-one, drop-cons s i 0, e)
 
   -- there is none
-  pub run-end : length s ≤ i → run p (drop i s) ≡ 0
-  unfolding run
-  run-end h = ap (run p) (drop-of-length-le s h)
+  pub run-end : length s ≤ i → leading p (drop i s) ≡ 0
+  unfolding leading
+  run-end h = ap (leading p) (drop-of-length-le s h)
 
 -- they are at most all
-pub run-le : (p : ℕ → Bool) (s : List ℕ) → run p s ≤ length s
-unfolding run
+pub run-le : (p : ℕ → Bool) (s : List ℕ) → leading p s ≤ length s
+unfolding leading
 run-le p [] = omega arith
 run-le p (x ∷ xs) = by (p x) (run-le p xs) where
-  by : (t : Bool) → run p xs ≤ length xs → cond t (suc (run p xs)) 0 ≤ suc (length xs)
+  by : (t : Bool) → leading p xs ≤ length xs → cond t (suc (leading p xs)) 0 ≤ suc (length xs)
   by true h = omega arith
   by false h = omega arith
 
@@ -94,7 +94,7 @@ pub trim-no : (s : List ℕ) → (getD s (length s - 1) 0 ≡ 13 → ⊥) → le
 trim-no s e = simp (ne-eqb _ _ e)
 
 -- what `skip` and `find` answer are the places of a word
-pub next-of : (line : List ℕ) (at p q : ℕ) → p ≡ at + past 32 (drop at line) → q ≡ p + upTo 32 (drop p line) → Next line at p q
+pub next-of : (line : List ℕ) (at p q : ℕ) → p ≡ at + past 32 (drop at line) → q ≡ p + upTo 32 (drop p line) → NextWord line at p q
 unfolding headWord tailWords
 next-of line at p q hp hq =
     let n : q - p ≡ upTo 32 (drop p line) = omega arith in
@@ -109,5 +109,5 @@ next-of line at p q hp hq =
     }
 
 -- a word is as long as its places say
-pub part-length : (line : List ℕ) (at p q : ℕ) → Next line at p q → length (take (q - p) (drop p line)) ≡ q - p
+pub part-length : (line : List ℕ) (at p q : ℕ) → NextWord line at p q → length (take (q - p) (drop p line)) ≡ q - p
 part-length line at p q n = length-take-le (q - p) (drop p line) (omega (arith, length-drop p line, n .starts, n .order, n .inside))

@@ -7,17 +7,17 @@ use lib.Dec.{eqb}
 use lib.ListN.{length, getD, take, drop}
 
 -- how many bytes at the start pass a test
-unfoldable pub run : (ℕ → Bool) → List ℕ → ℕ
-run p [] = 0
-run p (x ∷ xs) = cond (p x) (suc (run p xs)) 0
+unfoldable pub leading : (ℕ → Bool) → List ℕ → ℕ
+leading p [] = 0
+leading p (x ∷ xs) = cond (p x) (suc (leading p xs)) 0
 
 -- how many bytes stand before the first c; all of them where there is none
 abbrev pub upTo : ℕ → List ℕ → ℕ
-upTo c s = run (λ (x : ℕ). not (eqb x c)) s
+upTo c s = leading (λ (x : ℕ). not (eqb x c)) s
 
 -- how many bytes at the start are c
 abbrev pub past : ℕ → List ℕ → ℕ
-past c s = run (λ (x : ℕ). eqb x c) s
+past c s = leading (λ (x : ℕ). eqb x c) s
 
 -- what follows the spaces at the start
 abbrev pub skipped : List ℕ → List ℕ
@@ -32,7 +32,7 @@ unfoldable pub tailWords : List ℕ → List ℕ
 tailWords s = drop (upTo 32 (skipped s)) (skipped s)
 
 -- the first word from `at` on stands from `from` to `to`, within the line; where `at` is past its end, an empty one stands there
-pub record Next (line : List ℕ) (at from to : ℕ) : Type 0 where
+pub record NextWord (line : List ℕ) (at from to : ℕ) : Type 0 where
   pub starts : at ≤ from
   pub order : from ≤ to
   pub inside : to ≤ max at (length line)

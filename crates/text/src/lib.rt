@@ -4,7 +4,7 @@ ghost use Prim.Native.Nat.{_+_, _-_, _*_, _/_, _<_, _≤_, min};
 ghost use lib.Dec.{leb};
 ghost use lib.ListN.{length, drop};
 ghost use Rattle.io.specs.Counts.{Counts};
-ghost use Rattle.text.specs.Places.{upTo, past, sameList, trimLen, Next};
+ghost use Rattle.text.specs.Places.{upTo, past, sameList, trimLen, NextWord};
 ghost use Rattle.text.specs.Numbers.{numberIn, nibbleOf, allHex, bytesSaid, hexText, glyphOf, decimalText, labelled, numbered, numbersText};
 ghost use Rattle.text.specs.Putting.{PutFree, fronted};
 
@@ -185,7 +185,7 @@ pub struct Word {
 
 // The next word from `at` on; an empty one at the end where there is none, and at `at` where that is past the end.
 pub fn next_word(line: &[u8], at: usize) -> Word
-    ensures { λ r. ⌜ Next (now (line .entry)) at (r .from) (r .to) ⌝ }
+    ensures { λ r. ⌜ NextWord (now (line .entry)) at (r .from) (r .to) ⌝ }
 {
     let from = skip(line, at, SPACE);
     let to = find(line, from, SPACE);

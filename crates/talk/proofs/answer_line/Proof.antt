@@ -39,13 +39,13 @@ enum-known-call : tie.Need-enum-known-call
 enum-known-call c = search needs
 
 tell-open-requires : tie.Need-tell-open-requires
-tell-open-requires c κs = (placed (c .before .before .before .before .before) _ (c .before .before .before .call .given .1), search needs)
+tell-open-requires c κs = placed (c .before .before .before .before) _ (c .before .before .call .given .1)
 
 enum-known-call-2 : tie.Need-enum-known-call-2
 enum-known-call-2 c = search needs
 
 tell-open-requires-2 : tie.Need-tell-open-requires-2
-tell-open-requires-2 c κs = (placed (c .before .before .before .before .before) _ (c .before .before .before .call2 .given .1), search needs)
+tell-open-requires-2 c κs = placed (c .before .before .before .before) _ (c .before .before .call2 .given .1)
 
 enum-told-4 : tie.Need-enum-told-4
 enum-told-4 c = search needs
@@ -99,13 +99,13 @@ enum-known-call-8 : tie.Need-enum-known-call-8
 enum-known-call-8 c = search needs
 
 tell-build-requires : tie.Need-tell-build-requires
-tell-build-requires c κs = (placed (c .before .before .before .before .before) _ (c .before .before .before .call8 .given .1), search needs)
+tell-build-requires c κs = placed (c .before .before .before .before) _ (c .before .before .call8 .given .1)
 
 enum-known-call-9 : tie.Need-enum-known-call-9
 enum-known-call-9 c = search needs
 
 tell-distance-requires : tie.Need-tell-distance-requires
-tell-distance-requires c κs = (placed (c .before .before .before .before .before) _ (c .before .before .before .call9 .given .1), search needs)
+tell-distance-requires c κs = placed (c .before .before .before .before) _ (c .before .before .call9 .given .1)
 
 returns : tie.Need-returns
 returns c = answers-as (asked (c .before .before) _ (c .enum-told .given .1)) (answers _ (silent-said _) (λ p k. (k .is, refl)))
@@ -117,10 +117,10 @@ returns-3 : tie.Need-returns-3
 returns-3 c = answers-as (asked (c .before .before .before .before) _ (c .before .before .enum-told3 .given .1)) (c .tell-new .ensures)
 
 returns-4 : tie.Need-returns-4
-returns-4 c = answers-as (asked (c .before .before .before .before .before .before) _ (c .before .before .before .before .call .given .1)) (c .tell-open .ensures)
+returns-4 c = answers-as (asked (c .before .before .before .before .before) _ (c .before .before .before .call .given .1)) (c .tell-open .ensures)
 
 returns-5 : tie.Need-returns-5
-returns-5 c = answers-as (asked (c .before .before .before .before .before .before) _ (c .before .before .before .before .call2 .given .1)) (c .tell-open2 .ensures)
+returns-5 c = answers-as (asked (c .before .before .before .before .before) _ (c .before .before .before .call2 .given .1)) (c .tell-open2 .ensures)
 
 returns-6 : tie.Need-returns-6
 returns-6 c = answers-as (asked (c .before .before .before .before) _ (c .before .before .enum-told4 .given .1)) (c .tell-report .ensures)
@@ -138,7 +138,7 @@ returns-10 : tie.Need-returns-10
 returns-10 c = answers-as (asked (c .before .before .before .before .before) _ (c .before .before .before .call6 .given .1)) (c .tell-limits .ensures)
 
 returns-11 : tie.Need-returns-11
-returns-11 c = answers-as (asked (c .before .before .before .before .before .before) _ (c .before .before .before .before .call7 .given .1)) (c .tell-store .ensures)
+returns-11 c = answers-as (asked (c .before .before .before .before .before) _ (c .before .before .before .call7 .given .1)) (c .tell-store .ensures)
 
 returns-12 : tie.Need-returns-12
 returns-12 c = answers-as (asked (c .before .before .before .before) _ (c .before .before .enum-told5 .given .1)) (c .tell-held .ensures)
@@ -147,10 +147,10 @@ returns-13 : tie.Need-returns-13
 returns-13 c = answers-as (asked (c .before .before .before .before) _ (c .before .before .enum-told6 .given .1)) (c .tell-show .ensures)
 
 returns-14 : tie.Need-returns-14
-returns-14 c = answers-as (asked (c .before .before .before .before .before .before) _ (c .before .before .before .before .call8 .given .1)) (c .tell-build .ensures)
+returns-14 c = answers-as (asked (c .before .before .before .before .before) _ (c .before .before .before .call8 .given .1)) (c .tell-build .ensures)
 
 returns-15 : tie.Need-returns-15
-returns-15 c = answers-as (asked (c .before .before .before .before .before .before) _ (c .before .before .before .before .call9 .given .1)) (c .tell-distance .ensures)
+returns-15 c = answers-as (asked (c .before .before .before .before .before) _ (c .before .before .before .call9 .given .1)) (c .tell-distance .ensures)
 
 pub answer-line-spec : {M : Type 1} → statement M
 answer-line-spec =

@@ -6,14 +6,14 @@ use borrow.Author.Needs.{needs}
 use lib.Seq.{length-take-le}
 use Rattle.circuit.specs.Lines.{greatest}
 use Rattle.builder.specs.Rule.{distances}
-use Rattle.builder.specs.Kept.{rowsOf, base, Held, Stands, Tabled}
+use Rattle.builder.specs.Kept.{rowsOf, base, Held, SoFar, Tabled}
 use Rattle.builder.proofs.KeptUp.{held-filled}
 use Rattle.builder.proofs.Steps.{gaps-wide, gaps-taken, top-le, stands-next, grown-over, grown-end}
 use Rattle.builder.proofs.grow.grow.Statement.{statement}
 use Rattle.builder.proofs.grow.grow.Tie as tie
 
 abbrev Inv-loop : tie.InvT-loop
-Inv-loop rows limits len top h₀ s₀ h s = Stands (base s₀) rows limits s × Tabled rows limits s h
+Inv-loop rows limits len top h₀ s₀ h s = SoFar (base s₀) rows limits s × Tabled rows limits s h
 
 abbrev μ-loop : tie.MeasureT-loop
 μ-loop rows limits len top h₀ s₀ h s = 224 - s .count

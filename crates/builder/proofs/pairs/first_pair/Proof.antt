@@ -5,7 +5,7 @@ use Prim.Native.Nat.{_+_, _-_}
 use native.Mathlib.Nat.{sub-zero}
 use borrow.Author.Needs.{needs}
 use lib.ListN.{length}
-use Rattle.distance.specs.Base.{lines}
+use Rattle.distance.specs.Base.{baseOf}
 use Rattle.builder.specs.Rule.{row, firstIn, firstPair}
 use Rattle.builder.proofs.Lists.{lines-length}
 use Rattle.builder.proofs.Choice.{makes-yes, makes-other, makes-deep, in-hit, in-miss, in-end, pair-open, pair-end}
@@ -13,13 +13,13 @@ use Rattle.builder.proofs.pairs.first_pair.Statement.{statement}
 use Rattle.builder.proofs.pairs.first_pair.Tie as tie
 
 abbrev Inv-loop2 : tie.InvT-loop2
-Inv-loop2 masks depths t limit i j₀ i-end j-end j = firstPair (lines masks depths) (row t limit) i-end 0 ≡ firstIn (lines masks depths) (row t limit) (j-end - j) i j (firstPair (lines masks depths) (row t limit) (i-end - (i + 1)) (i + 1))
+Inv-loop2 masks depths t limit i j₀ i-end j-end j = firstPair (baseOf masks depths) (row t limit) i-end 0 ≡ firstIn (baseOf masks depths) (row t limit) (j-end - j) i j (firstPair (baseOf masks depths) (row t limit) (i-end - (i + 1)) (i + 1))
 
 abbrev μ-loop2 : tie.MeasureT-loop2
 μ-loop2 masks depths t limit i j₀ i-end j-end j = j-end - j
 
 abbrev Inv-loop : tie.InvT-loop
-Inv-loop masks depths t limit i₀ i-end i = firstPair (lines masks depths) (row t limit) i-end 0 ≡ firstPair (lines masks depths) (row t limit) (i-end - i) i
+Inv-loop masks depths t limit i₀ i-end i = firstPair (baseOf masks depths) (row t limit) i-end 0 ≡ firstPair (baseOf masks depths) (row t limit) (i-end - i) i
 
 abbrev μ-loop : tie.MeasureT-loop
 μ-loop masks depths t limit i₀ i-end i = i-end - i
@@ -33,7 +33,7 @@ add-j c = search needs
 loop2-holds : tie.Need-loop2-holds Inv-loop2 μ-loop2 Inv-loop μ-loop
 loop2-holds c =
     let a = c .before .before .before .before .args in
-    c .before .loop .inv ∙ pair-open (lines (a .masks .now) (a .depths .now)) (row (a .t) (a .limit)) (length (a .masks .now)) (c .before .loop .i) (lines-length (a .masks .now) (a .depths .now) (c .before .before .before .before .pre .0)) (c .loop-test .taken)
+    c .before .loop .inv ∙ pair-open (baseOf (a .masks .now) (a .depths .now)) (row (a .t) (a .limit)) (length (a .masks .now)) (c .before .loop .i) (lines-length (a .masks .now) (a .depths .now) (c .before .before .before .before .pre .0)) (c .loop-test .taken)
 
 shared-slice-read-if1 : tie.Need-shared-slice-read-if1 Inv-loop2 μ-loop2 Inv-loop μ-loop
 shared-slice-read-if1 c = search needs
@@ -56,7 +56,7 @@ returns c =
     let i = c .before .before .before .before .before .before .before .before .before .before .loop .i in
     let j = c .before .before .before .before .before .before .before .before .loop2 .j in
     c .before .before .before .before .before .before .before .before .loop2 .inv
-    ∙ in-hit (lines (a .masks .now) (a .depths .now)) (row (a .t) (a .limit)) (length (a .masks .now)) i j _ (c .before .before .before .before .before .before .before .loop2-test .taken)
+    ∙ in-hit (baseOf (a .masks .now) (a .depths .now)) (row (a .t) (a .limit)) (length (a .masks .now)) i j _ (c .before .before .before .before .before .before .before .loop2-test .taken)
     (makes-yes (a .masks .now) (a .depths .now) i j (c .before .deeper .result) (c .before .before .before .before .before .before .before .before .before .before .before .before .before .pre .0) (c .before .before .before .before .before .before .before .before .before .before .before .before .before .pre .1) (c .before .deeper .ensures) (a .t) (a .limit) (c .before .before .before .before .if1 .taken) (c .if2 .taken))
 
 add-j-2 : tie.Need-add-j-2 Inv-loop2 μ-loop2 Inv-loop μ-loop
@@ -71,7 +71,7 @@ loop2-again c =
     let i = c .before .before .before .before .before .before .loop .i in
     let j = c .before .before .before .before .loop2 .j in
     c .before .before .before .before .loop2 .inv
-    ∙ in-miss (lines (a .masks .now) (a .depths .now)) (row (a .t) (a .limit)) (length (a .masks .now)) i j _ (c .before .before .before .loop2-test .taken)
+    ∙ in-miss (baseOf (a .masks .now) (a .depths .now)) (row (a .t) (a .limit)) (length (a .masks .now)) i j _ (c .before .before .before .loop2-test .taken)
     (⊎-elim (λ w. makes-deep (a .masks .now) (a .depths .now) i j (w .3 .result) (c .before .before .before .before .before .before .before .before .before .pre .0) (c .before .before .before .before .before .before .before .before .before .pre .1) (w .3 .ensures) (a .t) (a .limit) (w .0 .taken) (w .4 .left))
     (λ w. makes-other (a .masks .now) (a .depths .now) i j (a .t) (a .limit) (c .before .before .before .before .before .before .before .before .before .pre .0) (w .left)) (c .if1 .came))
 
@@ -84,12 +84,12 @@ loop-less c = search needs
 loop-again : tie.Need-loop-again Inv-loop2 μ-loop2 Inv-loop μ-loop
 loop-again c =
     let a = c .before .before .before .before .before .before .args in
-    c .before .loop2 .inv ∙ in-end (lines (a .masks .now) (a .depths .now)) (row (a .t) (a .limit)) (length (a .masks .now)) (c .before .before .before .loop .i) (c .before .loop2 .j) _ (c .loop2-test .left)
+    c .before .loop2 .inv ∙ in-end (baseOf (a .masks .now) (a .depths .now)) (row (a .t) (a .limit)) (length (a .masks .now)) (c .before .before .before .loop .i) (c .before .loop2 .j) _ (c .loop2-test .left)
 
 returns-2 : tie.Need-returns-2 Inv-loop2 μ-loop2 Inv-loop μ-loop
 returns-2 c =
     let a = c .before .before .before .before .args in
-    c .before .loop .inv ∙ pair-end (lines (a .masks .now) (a .depths .now)) (row (a .t) (a .limit)) (length (a .masks .now)) (c .before .loop .i) (c .loop-test .left)
+    c .before .loop .inv ∙ pair-end (baseOf (a .masks .now) (a .depths .now)) (row (a .t) (a .limit)) (length (a .masks .now)) (c .before .loop .i) (c .loop-test .left)
 
 pub first-pair-spec : {M : Type 1} → statement M
 first-pair-spec =

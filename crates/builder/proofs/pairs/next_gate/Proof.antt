@@ -5,7 +5,7 @@ use native.Mathlib.Omega.{arith}
 use borrow.Author.Needs.{needs}
 use borrow.Author.Tests.{eq-eqb, ne-eqb}
 use lib.ListN.{getD}
-use Rattle.distance.specs.Base.{lines}
+use Rattle.distance.specs.Base.{baseOf}
 use Rattle.builder.specs.Rule.{row, firstPair}
 use Rattle.builder.specs.Kept.{rowsOf}
 use Rattle.builder.proofs.Lists.{lines-length, rows-length}
@@ -15,7 +15,7 @@ use Rattle.builder.proofs.pairs.next_gate.Statement.{statement}
 use Rattle.builder.proofs.pairs.next_gate.Tie as tie
 
 abbrev Inv-loop : tie.InvT-loop
-Inv-loop masks depths rows limits gaps h sum₀ i₀ i-end sum i = Passed (lines masks depths) (rowsOf rows limits) i sum
+Inv-loop masks depths rows limits gaps h sum₀ i₀ i-end sum i = Passed (baseOf masks depths) (rowsOf rows limits) i sum
 
 abbrev μ-loop : tie.MeasureT-loop
 μ-loop masks depths rows limits gaps h sum₀ i₀ i-end sum i = i-end - i
@@ -42,7 +42,7 @@ returns c =
     let a = c .before .before .before .before .before .before .before .before .before .before .before .before .args in
     let z = c .before .before .before .before .before .before .before .before .before .before .before .before .pre in
     let i = c .before .before .before .before .before .before .loop .i in
-    let ls = lines (a .masks .now) (a .depths .now) in
+    let ls = baseOf (a .masks .now) (a .depths .now) in
     let g = gap-at (a .masks .now) (a .depths .now) (a .rows .now) (a .limits .now) (a .gaps .now) (a .h .now) z (λ i. c .before .before .before .before .before .before .before .before .before .before .before .shared-slice-known .given i .fits) (λ i. c .before .before .before .before .before .before .before .before .before .shared-slice-known3 .given i .fits) i (c .before .before .before .before .before .loop-test .taken) in
     record {
       over-is = passed-some ls (a .rows .now) (a .limits .now) i (c .before .before .before .before .before .before .loop .sum) (getD (a .gaps .now) i 0) (z .paired) (c .before .before .before .before .before .loop-test .taken) g (c .before .before .before .before .before .before .loop .inv) (c .before .before .before .if1 .taken);
@@ -73,14 +73,14 @@ loop-again c =
     let z = c .before .before .before .before .before .before .before .before .before .pre in
     let i = c .before .before .before .loop .i in
     let g = gap-at (a .masks .now) (a .depths .now) (a .rows .now) (a .limits .now) (a .gaps .now) (a .h .now) z (λ i. c .before .before .before .before .before .before .before .before .shared-slice-known .given i .fits) (λ i. c .before .before .before .before .before .before .shared-slice-known3 .given i .fits) i (c .before .before .loop-test .taken) in
-    passed-more (lines (a .masks .now) (a .depths .now)) (a .rows .now) (a .limits .now) i (c .before .before .before .loop .sum) (getD (a .gaps .now) i 0) (z .paired) (c .before .before .loop-test .taken) g (c .before .before .before .loop .inv) (c .if1 .left)
+    passed-more (baseOf (a .masks .now) (a .depths .now)) (a .rows .now) (a .limits .now) i (c .before .before .before .loop .sum) (getD (a .gaps .now) i 0) (z .paired) (c .before .before .loop-test .taken) g (c .before .before .before .loop .inv) (c .if1 .left)
     (omega (arith, gap-small (a .masks .now) (a .depths .now) (a .rows .now) (a .limits .now) (a .gaps .now) (a .h .now) (c .before .before .before .before .before .before .before .before .before .pre) (λ i. c .before .before .before .before .before .before .before .before .shared-slice-known .given i .fits) (λ i. c .before .before .before .before .before .before .shared-slice-known3 .given i .fits) i))
 
 -- the sum of all distances
-total : (c : tie.After-loop Inv-loop μ-loop) → Rattle.builder.specs.Rule.sum (Rattle.builder.specs.Rule.distances (lines (c .before .before .before .before .before .before .before .args .masks .now) (c .before .before .before .before .before .before .before .args .depths .now)) (rowsOf (c .before .before .before .before .before .before .before .args .rows .now) (c .before .before .before .before .before .before .before .args .limits .now))) ≡ c .before .loop .sum
+total : (c : tie.After-loop Inv-loop μ-loop) → Rattle.builder.specs.Rule.sum (Rattle.builder.specs.Rule.distances (baseOf (c .before .before .before .before .before .before .before .args .masks .now) (c .before .before .before .before .before .before .before .args .depths .now)) (rowsOf (c .before .before .before .before .before .before .before .args .rows .now) (c .before .before .before .before .before .before .before .args .limits .now))) ≡ c .before .loop .sum
 total c =
     let a = c .before .before .before .before .before .before .before .args in
-    passed-total (lines (a .masks .now) (a .depths .now)) (rowsOf (a .rows .now) (a .limits .now)) (c .before .loop .i) (c .before .loop .sum) (omega (arith, rows-length (a .rows .now) (a .limits .now) (c .before .before .before .before .before .before .before .pre .paired), c .loop-test .left)) (c .before .loop .inv)
+    passed-total (baseOf (a .masks .now) (a .depths .now)) (rowsOf (a .rows .now) (a .limits .now)) (c .before .loop .i) (c .before .loop .sum) (omega (arith, rows-length (a .rows .now) (a .limits .now) (c .before .before .before .before .before .before .before .pre .paired), c .loop-test .left)) (c .before .loop .inv)
 
 returns-2 : tie.Need-returns-2 Inv-loop μ-loop
 returns-2 c = record { over-is = sym (eq-eqb _ 0 (total (c .before) ∙ c .if2 .taken)); pair = λ o. absurd (let z : _≡_ {A = ℕ} 0 1 = cc in omega arith) }
@@ -94,7 +94,7 @@ returns-3 c =
     record {
       over-is = sym (ne-eqb _ 0 (λ e. c .before .if2 .left (sym (total (c .before .before)) ∙ e)));
       pair = λ o.
-          passed-best (lines (a .masks .now) (a .depths .now)) (rowsOf (a .rows .now) (a .limits .now)) (c .before .before .before .loop .i) (c .before .before .before .loop .sum) (omega (arith, rows-length (a .rows .now) (a .limits .now) (c .before .before .before .before .before .before .before .before .before .pre .paired), c .before .before .loop-test .left)) (c .before .before .before .loop .inv)
+          passed-best (baseOf (a .masks .now) (a .depths .now)) (rowsOf (a .rows .now) (a .limits .now)) (c .before .before .before .loop .i) (c .before .before .before .loop .sum) (omega (arith, rows-length (a .rows .now) (a .limits .now) (c .before .before .before .before .before .before .before .before .before .pre .paired), c .before .before .loop-test .left)) (c .before .before .before .loop .inv)
           ∙ c .best-pair .ensures;
     }
 

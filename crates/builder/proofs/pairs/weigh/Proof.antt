@@ -8,7 +8,7 @@ use native.Mathlib.Omega.{arith}
 use borrow.Author.Needs.{needs}
 use lib.Bits.{bitXor}
 use lib.ListN.{length, getD}
-use Rattle.distance.specs.Base.{lines, gate}
+use Rattle.distance.specs.Base.{baseOf, xor}
 use Rattle.distance.proofs.Entries.{cost-is}
 use Rattle.builder.specs.Rule.{best, start, alongLine, allPairs}
 use Rattle.builder.specs.Kept.{goalsWith}
@@ -28,15 +28,15 @@ abbrev μ-loop2 : tie.MeasureT-loop2
 μ-loop2 masks depths places rooms lows h top floor total square a b i j₀ depth m c sum₀ r₀ i-end j-end r-end j sum r = r-end - r
 
 abbrev Inv-pairs : tie.InvT-pairs
-Inv-pairs masks depths places rooms lows h top floor total₀ square₀ a₀ b₀ i j₀ i-end j-end total square a b j = alongLine (lines masks depths) (goalsWith (lines masks depths) h places rooms lows) top (i-end - (i + 1)) i (i + 1) (best total₀ square₀ (gate a₀ b₀))
-    ≡ alongLine (lines masks depths) (goalsWith (lines masks depths) h places rooms lows) top (j-end - j) i j (best total square (gate a b))
+Inv-pairs masks depths places rooms lows h top floor total₀ square₀ a₀ b₀ i j₀ i-end j-end total square a b j = alongLine (baseOf masks depths) (goalsWith (baseOf masks depths) h places rooms lows) top (i-end - (i + 1)) i (i + 1) (best total₀ square₀ (xor a₀ b₀))
+    ≡ alongLine (baseOf masks depths) (goalsWith (baseOf masks depths) h places rooms lows) top (j-end - j) i j (best total square (xor a b))
 
 abbrev μ-pairs : tie.MeasureT-pairs
 μ-pairs masks depths places rooms lows h top floor total₀ square₀ a₀ b₀ i j₀ i-end j-end total square a b j = j-end - j
 
 abbrev Inv-loop : tie.InvT-loop
-Inv-loop masks depths places rooms lows h top floor total₀ square₀ a₀ b₀ i₀ i-end total square a b i = allPairs (lines masks depths) (goalsWith (lines masks depths) h places rooms lows) top i-end 0 start
-    ≡ allPairs (lines masks depths) (goalsWith (lines masks depths) h places rooms lows) top (i-end - i) i (best total square (gate a b))
+Inv-loop masks depths places rooms lows h top floor total₀ square₀ a₀ b₀ i₀ i-end total square a b i = allPairs (baseOf masks depths) (goalsWith (baseOf masks depths) h places rooms lows) top i-end 0 start
+    ≡ allPairs (baseOf masks depths) (goalsWith (baseOf masks depths) h places rooms lows) top (i-end - i) i (best total square (xor a b))
 
 abbrev μ-loop : tie.MeasureT-loop
 μ-loop masks depths places rooms lows h top floor total₀ square₀ a₀ b₀ i₀ i-end total square a b i = i-end - i
@@ -72,9 +72,9 @@ pairs-again c =
     let a = c .before .before .before .before .before .before .before .before .before .before .before .before .before .args in
     let i = c .before .before .before .before .before .before .before .loop .i in
     let u = c .before .before .before .before .before .pairs in
-    let b = best (u .total) (u .square) (gate (u .a) (u .b)) in
+    let b = best (u .total) (u .square) (xor (u .a) (u .b)) in
     u .inv
-    ∙ along-more (lines (a .masks .now) (a .depths .now)) (goalsWith (lines (a .masks .now) (a .depths .now)) (a .h .now) (a .places .now) (a .rooms .now) (a .lows .now)) (a .top) (length (a .masks .now)) i (u .j) b b (c .before .before .before .before .pairs-test .taken)
+    ∙ along-more (baseOf (a .masks .now) (a .depths .now)) (goalsWith (baseOf (a .masks .now) (a .depths .now)) (a .h .now) (a .places .now) (a .rooms .now) (a .lows .now)) (a .top) (length (a .masks .now)) i (u .j) b b (c .before .before .before .before .pairs-test .taken)
     (pair-deep (a .masks .now) (a .depths .now) (a .places .now) (a .rooms .now) (a .lows .now) (a .h .now) i (u .j) (c .before .deeper .result) _ (c .before .before .before .before .before .before .before .before .before .before .before .before .before .pre .even) (c .before .before .before .before .before .before .before .before .before .before .before .before .before .pre .shallow) (c .before .deeper .ensures) refl (a .top) b (c .if1 .taken))
 
 shared-slice-read-m :
@@ -137,11 +137,11 @@ pairs-again-2 c =
     let i = c .before .before .before .before .before .before .before .before .before .before .before .before .before .before .before .before .loop .i in
     let u = c .before .before .before .before .before .before .before .before .before .before .before .before .before .before .pairs in
     let r = c .before .before .before .before .before .loop2 in
-    let b = best (u .total) (u .square) (gate (u .a) (u .b)) in
+    let b = best (u .total) (u .square) (xor (u .a) (u .b)) in
     u .inv
-    ∙ along-more (lines (a .masks .now) (a .depths .now)) (goalsWith (lines (a .masks .now) (a .depths .now)) (a .h .now) (a .places .now) (a .rooms .now) (a .lows .now)) (a .top) (length (a .masks .now)) i (u .j) b b (c .before .before .before .before .before .before .before .before .before .before .before .before .before .pairs-test .taken)
+    ∙ along-more (baseOf (a .masks .now) (a .depths .now)) (goalsWith (baseOf (a .masks .now) (a .depths .now)) (a .h .now) (a .places .now) (a .rooms .now) (a .lows .now)) (a .top) (length (a .masks .now)) i (u .j) b b (c .before .before .before .before .before .before .before .before .before .before .before .before .before .pairs-test .taken)
     (pair-over (a .masks .now) (a .depths .now) (a .places .now) (a .rooms .now) (a .lows .now) (a .h .now) i (u .j) (c .before .before .before .before .before .before .before .before .before .before .deeper .result) (c .before .before .before .before .before .before .cost .result) (c .before .before .before .before .before .before .before .before .before .before .before .before .before .before .before .before .before .before .before .before .before .before .pre .even) (c .before .before .before .before .before .before .before .before .before .before .before .before .before .before .before .before .before .before .before .before .before .before .pre .shallow) (c .before .before .before .before .before .before .before .before .before .before .deeper .ensures) (cost-is _ _ (omega (arith, c .before .before .before .before .before .before .before .before .before .if1 .left, c .before .before .before .before .before .before .before .before .before .before .before .before .before .before .before .before .before .before .before .before .before .before .pre .deep)) (c .before .before .before .before .before .before .cost .ensures)) (a .top) b (r .r + 1) (r .sum + c .before .misses .result) (c .before .before .before .before .before .before .before .before .before .if1 .left) (more (c .before)) (c .if2 .taken))
-    ∙ ap (λ (x : ℕ). alongLine (lines (a .masks .now) (a .depths .now)) (goalsWith (lines (a .masks .now) (a .depths .now)) (a .h .now) (a .places .now) (a .rooms .now) (a .lows .now)) (a .top) (length (a .masks .now) - (x + 1)) i (x + 1) b) (sym (r .inv .0))
+    ∙ ap (λ (x : ℕ). alongLine (baseOf (a .masks .now) (a .depths .now)) (goalsWith (baseOf (a .masks .now) (a .depths .now)) (a .h .now) (a .places .now) (a .rooms .now) (a .lows .now)) (a .top) (length (a .masks .now) - (x + 1)) i (x + 1) b) (sym (r .inv .0))
 
 add-r : tie.Need-add-r Inv-loop2 μ-loop2 Inv-pairs μ-pairs Inv-loop μ-loop
 add-r c = search needs
@@ -172,17 +172,17 @@ pairs-again-3 c =
     let u = c .before .before .before .before .before .before .before .before .before .before .before .before .before .pairs in
     let r = c .before .before .before .before .loop2 in
     let v = c .if3 in
-    let b = best (u .total) (u .square) (gate (u .a) (u .b)) in
+    let b = best (u .total) (u .square) (xor (u .a) (u .b)) in
     let e = missed-end (a .h .now) (bitXor (getD (a .masks .now) i 0) (getD (a .masks .now) (u .j) 0)) (c .before .before .before .before .before .cost .result) (a .places .now) (a .rooms .now) (a .lows .now) (c .before .before .before .before .before .before .before .before .before .before .before .before .before .before .before .before .before .before .before .before .before .pre .goals) (r .r) (r .sum) (c .before .before .before .loop2-test .left) (r .inv .2) in
     u .inv
-    ∙ along-more (lines (a .masks .now) (a .depths .now)) (goalsWith (lines (a .masks .now) (a .depths .now)) (a .h .now) (a .places .now) (a .rooms .now) (a .lows .now)) (a .top) (length (a .masks .now)) i (u .j) b (best (v .total) (v .square) (gate (v .a) (v .b))) (c .before .before .before .before .before .before .before .before .before .before .before .before .pairs-test .taken)
+    ∙ along-more (baseOf (a .masks .now) (a .depths .now)) (goalsWith (baseOf (a .masks .now) (a .depths .now)) (a .h .now) (a .places .now) (a .rooms .now) (a .lows .now)) (a .top) (length (a .masks .now)) i (u .j) b (best (v .total) (v .square) (xor (v .a) (v .b))) (c .before .before .before .before .before .before .before .before .before .before .before .before .pairs-test .taken)
     (⊎-elim
     (λ w. pair-done (a .masks .now) (a .depths .now) (a .places .now) (a .rooms .now) (a .lows .now) (a .h .now) i (u .j) (c .before .before .before .before .before .before .before .before .before .deeper .result) (c .before .before .before .before .before .cost .result) (c .before .before .before .before .before .before .before .before .before .before .before .before .before .before .before .before .before .before .before .before .before .pre .even) (c .before .before .before .before .before .before .before .before .before .before .before .before .before .before .before .before .before .before .before .before .before .pre .shallow) (c .before .before .before .before .before .before .before .before .before .deeper .ensures) (cost-is _ _ (omega (arith, c .before .before .before .before .before .before .before .before .if1 .left, c .before .before .before .before .before .before .before .before .before .before .before .before .before .before .before .before .before .before .before .before .before .pre .deep)) (c .before .before .before .before .before .cost .ensures)) (a .top) b (r .sum) (c .before .before .square-sum .result) true (c .before .before .before .before .before .before .before .before .if1 .left) e (c .before .before .square-sum .ensures) (sym (c .before .improves .ensures) ∙ w .0 .taken)
     ∙ sym (best-eq (w .1) (w .2) (w .3) (w .4 ∙ r .inv .0)))
     (λ w. pair-done (a .masks .now) (a .depths .now) (a .places .now) (a .rooms .now) (a .lows .now) (a .h .now) i (u .j) (c .before .before .before .before .before .before .before .before .before .deeper .result) (c .before .before .before .before .before .cost .result) (c .before .before .before .before .before .before .before .before .before .before .before .before .before .before .before .before .before .before .before .before .before .pre .even) (c .before .before .before .before .before .before .before .before .before .before .before .before .before .before .before .before .before .before .before .before .before .pre .shallow) (c .before .before .before .before .before .before .before .before .before .deeper .ensures) (cost-is _ _ (omega (arith, c .before .before .before .before .before .before .before .before .if1 .left, c .before .before .before .before .before .before .before .before .before .before .before .before .before .before .before .before .before .before .before .before .before .pre .deep)) (c .before .before .before .before .before .cost .ensures)) (a .top) b (r .sum) (c .before .before .square-sum .result) false (c .before .before .before .before .before .before .before .before .if1 .left) e (c .before .before .square-sum .ensures) (sym (c .before .improves .ensures) ∙ w .0 .left)
     ∙ sym (best-eq (w .1) (w .2) (w .3) (w .4)))
     (v .came))
-    ∙ ap (λ (x : ℕ). alongLine (lines (a .masks .now) (a .depths .now)) (goalsWith (lines (a .masks .now) (a .depths .now)) (a .h .now) (a .places .now) (a .rooms .now) (a .lows .now)) (a .top) (length (a .masks .now) - (x + 1)) i (x + 1) (best (v .total) (v .square) (gate (v .a) (v .b)))) (sym (r .inv .0))
+    ∙ ap (λ (x : ℕ). alongLine (baseOf (a .masks .now) (a .depths .now)) (goalsWith (baseOf (a .masks .now) (a .depths .now)) (a .h .now) (a .places .now) (a .rooms .now) (a .lows .now)) (a .top) (length (a .masks .now) - (x + 1)) i (x + 1) (best (v .total) (v .square) (xor (v .a) (v .b)))) (sym (r .inv .0))
 
 add-i : tie.Need-add-i Inv-loop2 μ-loop2 Inv-pairs μ-pairs Inv-loop μ-loop
 add-i c = search needs
@@ -195,18 +195,18 @@ loop-again c =
     let a = c .before .before .before .before .before .before .before .before .before .args in
     let i = c .before .before .before .loop in
     let u = c .before .pairs in
-    let ls = lines (a .masks .now) (a .depths .now) in
+    let ls = baseOf (a .masks .now) (a .depths .now) in
     i .inv
-    ∙ pairs-more ls (goalsWith ls (a .h .now) (a .places .now) (a .rooms .now) (a .lows .now)) (a .top) (length (a .masks .now)) (i .i) (best (i .total) (i .square) (gate (i .a) (i .b))) (best (u .total) (u .square) (gate (u .a) (u .b)))
+    ∙ pairs-more ls (goalsWith ls (a .h .now) (a .places .now) (a .rooms .now) (a .lows .now)) (a .top) (length (a .masks .now)) (i .i) (best (i .total) (i .square) (xor (i .a) (i .b))) (best (u .total) (u .square) (xor (u .a) (u .b)))
     (lines-length (a .masks .now) (a .depths .now) (c .before .before .before .before .before .before .before .before .before .pre .even)) (c .before .before .loop-test .taken)
-    (u .inv ∙ along-end ls (goalsWith ls (a .h .now) (a .places .now) (a .rooms .now) (a .lows .now)) (a .top) (length (a .masks .now)) (i .i) (u .j) (best (u .total) (u .square) (gate (u .a) (u .b))) (c .pairs-test .left))
+    (u .inv ∙ along-end ls (goalsWith ls (a .h .now) (a .places .now) (a .rooms .now) (a .lows .now)) (a .top) (length (a .masks .now)) (i .i) (u .j) (best (u .total) (u .square) (xor (u .a) (u .b))) (c .pairs-test .left))
 
 returns : tie.Need-returns Inv-loop2 μ-loop2 Inv-pairs μ-pairs Inv-loop μ-loop
 returns c =
     let a = c .before .before .before .before .before .before .before .args in
     let i = c .before .loop in
-    let ls = lines (a .masks .now) (a .depths .now) in
-    i .inv ∙ pairs-end ls (goalsWith ls (a .h .now) (a .places .now) (a .rooms .now) (a .lows .now)) (a .top) (length (a .masks .now)) (i .i) (best (i .total) (i .square) (gate (i .a) (i .b))) (c .loop-test .left)
+    let ls = baseOf (a .masks .now) (a .depths .now) in
+    i .inv ∙ pairs-end ls (goalsWith ls (a .h .now) (a .places .now) (a .rooms .now) (a .lows .now)) (a .top) (length (a .masks .now)) (i .i) (best (i .total) (i .square) (xor (i .a) (i .b))) (c .loop-test .left)
 
 pub weigh-spec : {M : Type 1} → statement M
 weigh-spec =

@@ -5,14 +5,14 @@ use Prim.Native.Nat.{_-_}
 use native.Mathlib.Omega.{arith}
 use borrow.Author.Needs.{needs}
 use lib.ListN.{drop}
-use Rattle.distance.specs.Base.{lines}
+use Rattle.distance.specs.Base.{baseOf}
 use Rattle.builder.specs.Rule.{row, lowest, lowestFrom}
 use Rattle.builder.proofs.Steps.{low-hit, low-other, low-deep, low-end}
 use Rattle.builder.proofs.program.lowest.Statement.{statement}
 use Rattle.builder.proofs.program.lowest.Tie as tie
 
 abbrev Inv-loop : tie.InvT-loop
-Inv-loop masks depths t limit i₀ i-end i = lowest (lines masks depths) (row t limit) ≡ lowestFrom (row t limit) i (drop i (lines masks depths))
+Inv-loop masks depths t limit i₀ i-end i = lowest (baseOf masks depths) (row t limit) ≡ lowestFrom (row t limit) i (drop i (baseOf masks depths))
 
 abbrev μ-loop : tie.MeasureT-loop
 μ-loop masks depths t limit i₀ i-end i = i-end - i

@@ -7,7 +7,7 @@ use borrow.Author.Needs.{needs}
 use lib.ListN.{length, getD, take, set}
 use Rattle.circuit.specs.Lines.{padded}
 use Rattle.circuit.proofs.Padding.{padded-none, padded-next, padded-all}
-use Rattle.distance.specs.Base.{lines}
+use Rattle.distance.specs.Base.{baseOf}
 use Rattle.builder.specs.Rule.{row, lowest}
 use Rattle.builder.specs.Kept.{rowsOf}
 use Rattle.builder.proofs.Steps.{lowest-byte, outs-at, outs-length}
@@ -15,7 +15,7 @@ use Rattle.builder.proofs.program.outputs.Statement.{statement}
 use Rattle.builder.proofs.program.outputs.Tie as tie
 
 abbrev Inv-loop : tie.InvT-loop
-Inv-loop masks depths rows limits outs₀ i₀ i-end outs i = (i ≤ length rows) × (outs ≡ padded 32 0 (take i (map (lowest (lines masks depths)) (rowsOf rows limits))))
+Inv-loop masks depths rows limits outs₀ i₀ i-end outs i = (i ≤ length rows) × (outs ≡ padded 32 0 (take i (map (lowest (baseOf masks depths)) (rowsOf rows limits))))
 
 abbrev μ-loop : tie.MeasureT-loop
 μ-loop masks depths rows limits outs₀ i₀ i-end outs i = i-end - i
@@ -49,12 +49,12 @@ loop-again c =
     let a = c .before .before .before .before .before .before .before .before .before .args in
     let i = c .before .before .before .before .loop .i in
     let n = outs-length (a .masks .now) (a .depths .now) (a .rows .now) (a .limits .now) (c .before .before .before .before .before .before .before .before .before .pre .1 .0) in
-    (search needs, ap (λ (l : List ℕ). set l i (c .lowest .result)) (c .before .before .before .before .loop .inv .1) ∙ padded-next 32 0 (map (lowest (lines (a .masks .now) (a .depths .now))) (rowsOf (a .rows .now) (a .limits .now))) i (c .lowest .result) (omega (arith, n, c .before .before .before .loop-test .taken)) (omega (arith, n, c .before .before .before .before .before .before .before .before .before .pre .1 .1 .0)) (c .lowest .ensures ∙ outs-at (a .masks .now) (a .depths .now) (a .rows .now) (a .limits .now) i (c .before .before .before .before .before .before .before .before .before .pre .1 .0) (c .before .before .before .loop-test .taken)))
+    (search needs, ap (λ (l : List ℕ). set l i (c .lowest .result)) (c .before .before .before .before .loop .inv .1) ∙ padded-next 32 0 (map (lowest (baseOf (a .masks .now) (a .depths .now))) (rowsOf (a .rows .now) (a .limits .now))) i (c .lowest .result) (omega (arith, n, c .before .before .before .loop-test .taken)) (omega (arith, n, c .before .before .before .before .before .before .before .before .before .pre .1 .1 .0)) (c .lowest .ensures ∙ outs-at (a .masks .now) (a .depths .now) (a .rows .now) (a .limits .now) i (c .before .before .before .before .before .before .before .before .before .pre .1 .0) (c .before .before .before .loop-test .taken)))
 
 returns : tie.Need-returns Inv-loop μ-loop
 returns c =
     let a = c .before .before .before .before .before .before .args in
-    c .before .loop .inv .1 ∙ padded-all 32 0 (map (lowest (lines (a .masks .now) (a .depths .now))) (rowsOf (a .rows .now) (a .limits .now))) (c .before .loop .i) (omega (arith, c .before .loop .inv .0, c .loop-test .left, outs-length (a .masks .now) (a .depths .now) (a .rows .now) (a .limits .now) (c .before .before .before .before .before .before .pre .1 .0)))
+    c .before .loop .inv .1 ∙ padded-all 32 0 (map (lowest (baseOf (a .masks .now) (a .depths .now))) (rowsOf (a .rows .now) (a .limits .now))) (c .before .loop .i) (omega (arith, c .before .loop .inv .0, c .loop-test .left, outs-length (a .masks .now) (a .depths .now) (a .rows .now) (a .limits .now) (c .before .before .before .before .before .before .pre .1 .0)))
 
 pub outputs-spec : {M : Type 1} → statement M
 outputs-spec =

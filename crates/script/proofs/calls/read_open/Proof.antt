@@ -6,7 +6,7 @@ use mathlib.Core.List.{List}
 use Prim.Native.Nat.{ℕ}
 use lib.ListN.{drop}
 use Rattle.script.specs.Order.{bytesOf}
-use Rattle.script.specs.Reading.{nothing, askOpen, openIn}
+use Rattle.script.specs.Reading.{noMore, askOpen, openRest}
 use Rattle.script.specs.Placed.{HexParts, afterWords}
 use Rattle.script.specs.Cursors.{onward}
 use Rattle.script.proofs.HexWords.{hex-parts, word-left, part-left}
@@ -43,16 +43,16 @@ both-follow q e =
 -- what the line asks is the same after each word; b says whether the target is a matrix
 asks-same : (q : tie.After-limit-at3) (b : Bool)
     → let depth = q .before in let gates = depth .before in let target = gates .before in let kind = target .before in let bytes = kind .before in
-    kind .kind-at .result .«is_matrix» ≡ b → onward (line-of q) (start-of q .args .here) openIn
+    kind .kind-at .result .«is_matrix» ≡ b → onward (line-of q) (start-of q .args .here) openRest
     ≡ onward (line-of q) (q .limit-at3 .result .rest)
-    (nothing (askOpen b (bytesOf (line-of q) (bytes .hex-at .result .part)) (bytesOf (line-of q) (target .hex-at2 .result .part))
+    (noMore (askOpen b (bytesOf (line-of q) (bytes .hex-at .result .part)) (bytesOf (line-of q) (target .hex-at2 .result .part))
     (gates .limit-at .result .value) (depth .limit-at2 .result .value) (q .limit-at3 .result .value)))
 asks-same q b e =
     let depth = q .before in let gates = depth .before in let target = gates .before in let kind = target .before in let bytes = kind .before in
     bytes .hex-at .ensures .took .asks _ ∙ kind .kind-at .ensures .asks _ ∙ target .hex-at2 .ensures .took .asks _ ∙ gates .limit-at .ensures .asks _
     ∙ depth .limit-at2 .ensures .asks _ ∙ q .limit-at3 .ensures .asks _
     ∙ (λ i. onward (line-of q) (q .limit-at3 .result .rest)
-    (nothing (askOpen (e i) (bytesOf (line-of q) (bytes .hex-at .result .part)) (bytesOf (line-of q) (target .hex-at2 .result .part))
+    (noMore (askOpen (e i) (bytesOf (line-of q) (bytes .hex-at .result .part)) (bytesOf (line-of q) (target .hex-at2 .result .part))
     (gates .limit-at .result .value) (depth .limit-at2 .result .value) (q .limit-at3 .result .value))))
 
 hex-at-requires : tie.Need-hex-at-requires

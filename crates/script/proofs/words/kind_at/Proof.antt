@@ -5,16 +5,16 @@ use mathlib.Core.List.{List}
 use Prim.Native.Nat.{ℕ}
 use borrow.Author.Tests.{not-true, not-false}
 use Rattle.text.specs.Places.{sameList}
-use Rattle.script.specs.Reading.{matrixName, tableName}
+use Rattle.script.specs.Reading.{matrixWord, tableWord}
 use Rattle.script.proofs.Steps.{word-test, took-none, took-word, took-lost, kind-matrix, kind-table, kind-not}
 use Rattle.script.proofs.words.kind_at.Statement.{statement}
 use Rattle.script.proofs.words.kind_at.Tie as tie
 
 abbrev is-matrix : List ℕ → Bool
-is-matrix w = sameList w matrixName
+is-matrix w = sameList w matrixWord
 
 abbrev is-table : List ℕ → Bool
-is-table w = sameList w tableName
+is-table w = sameList w tableWord
 
 returns : tie.Need-returns
 returns c = took-none (c .before .before .before .pre) (not-true _ (c .if1 .taken))

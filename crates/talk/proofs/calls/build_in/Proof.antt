@@ -2,9 +2,9 @@
 use mathlib.Core.Path.{_≡_}
 use native.Mathlib.Omega.{arith}
 use lib.ListN.{length, take, drop, length-take}
+use Rattle.io.specs.Counts.{Counts}
 use Rattle.script.specs.Order.{bytesOf}
-use Rattle.talk.specs.Saying.{Said}
-use Rattle.talk.proofs.Spoken.{said}
+use Rattle.talk.proofs.Spoken.{said, first-bytes}
 use Rattle.talk.proofs.Laying.{bytes-long, bytes-put}
 use Rattle.talk.proofs.Building.{builds-as, builds-first}
 use borrow.Author.Needs.{needs}
@@ -12,20 +12,24 @@ use Rattle.talk.proofs.calls.build_in.Statement.{statement}
 use Rattle.talk.proofs.calls.build_in.Tie as tie
 
 -- how long the lent part is
-size : (m : tie.After-at-most) → length (take (m .at-most .result) (m .before .before .before .before .before .before .before .before .before .before .args .room .now)) ≡ m .at-most .result
+size : (m : tie.After-at-most) → length (take (m .at-most .result) (m .before .before .before .before .before .before .before .before .args .room .now)) ≡ m .at-most .result
 size m =
-    let s = m .before .before .before .before .before .before .before .before .before .before in
-    omega (arith, m .at-most .ensures, s .pre .2, length-take (m .at-most .result) (s .args .room .now))
+    let s = m .before .before .before .before .before .before .before .before in
+    omega (arith, m .at-most .ensures, s .pre .1, length-take (m .at-most .result) (s .args .room .now))
 
 -- the rows stand first in their room
-rows : (m : tie.After-put-unhex) → let a = m .before .before .before .before .before .before .before .args in
-    Said (m .put-unhex .last .0) (m .put-unhex .result) (bytesOf (a .line .now) (a .q .rows))
+rows : (m : tie.After-put-unhex) → let a = m .before .before .before .before .before .before .args in
+    Counts (m .put-unhex .result) (m .put-unhex .last .0) × (take (m .put-unhex .result) (m .put-unhex .last .0) ≡ bytesOf (a .line .now) (a .q .rows))
 rows m =
-    let s = m .before .before .before .before .before .before .before in
+    let s = m .before .before .before .before .before .before in
     let h = s .pre .0 in
     let p = bytes-put (s .args .line .now) (s .args .q .rows) h (omega arith) (m .put-unhex .ensures) in
     let n = bytes-long (s .args .line .now) (s .args .q .rows) h in
-    said (omega arith) p
+    let s = said (omega arith) p in
+    (s .counts, first-bytes s)
+
+slice-aggregate-put-unhex : tie.Need-slice-aggregate-put-unhex
+slice-aggregate-put-unhex c = search needs
 
 sub-put-unhex : tie.Need-sub-put-unhex
 sub-put-unhex c = search needs
@@ -42,11 +46,11 @@ put-unhex-requires c κs = search needs
 at-most-requires : tie.Need-at-most-requires
 at-most-requires c κs = search needs
 
-slice-reshare-prefix-build : tie.Need-slice-reshare-prefix-build
-slice-reshare-prefix-build c = rows (c .before .before .before) .counts .0
+array-share-prefix-rows : tie.Need-array-share-prefix-rows
+array-share-prefix-rows c = search needs
 
 slice-aggregate-build : tie.Need-slice-aggregate-build
-slice-aggregate-build c = rows (c .before .before .before .before) .counts .1
+slice-aggregate-build c = rows (c .before .before .before) .0 .1
 
 slice-relend-prefix-build : tie.Need-slice-relend-prefix-build
 slice-relend-prefix-build c = search needs
@@ -60,32 +64,28 @@ build-requires c κs = search needs
 same-length : tie.Need-same-length
 same-length c = search needs
 
-same-length-2 : tie.Need-same-length-2
-same-length-2 c = search needs
-
 returns : tie.Need-returns
 returns c =
-    let m = c .before .before .before .before .before in
-    let a = c .before .before .before .before .before .before .before .before .before .before .before .before .before .before .before .args in
     let b = c .before .before .build in
-    let e = rows (c .before .before .before .before .before .before .before .before) .says in
+    let m = c .before .before .before .before .before in
+    let a = m .before .before .before .before .before .before .before .before .args in
     builds-first (a .q .n) (bytesOf (a .line .now) (a .q .rows)) (a .q .d) (a .q .room) (m .at-most .result) (take (m .at-most .result) (a .room .now)) (drop (m .at-most .result) (a .room .now)) _ (b .result)
-    (m .at-most .ensures) (size m) (builds-as e (b .ensures))
+    (m .at-most .ensures) (size m) (builds-as (rows (m .before .before) .1) (b .ensures))
 
 pub build-in-spec : {M : Type 1} → statement M
 build-in-spec =
     tie.close
     (tie.spec
+    slice-aggregate-put-unhex
     sub-put-unhex
     part-put-unhex-start
     part-put-unhex-end
     put-unhex-requires
     at-most-requires
-    slice-reshare-prefix-build
+    array-share-prefix-rows
     slice-aggregate-build
     slice-relend-prefix-build
     slice-aggregate-build-2
     build-requires
     same-length
-    same-length-2
     returns)

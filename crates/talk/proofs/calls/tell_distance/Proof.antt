@@ -9,8 +9,14 @@ use borrow.Author.Needs.{needs}
 use Rattle.talk.proofs.calls.tell_distance.Statement.{statement}
 use Rattle.talk.proofs.calls.tell_distance.Tie as tie
 
+slice-aggregate-lay-two : tie.Need-slice-aggregate-lay-two
+slice-aggregate-lay-two c = search needs
+
 lay-two-requires : tie.Need-lay-two-requires
 lay-two-requires c κs = search needs
+
+slice-aggregate-distance-parts : tie.Need-slice-aggregate-distance-parts
+slice-aggregate-distance-parts c = search needs
 
 distance-parts-requires : tie.Need-distance-parts-requires
 distance-parts-requires c κs = search needs
@@ -18,14 +24,11 @@ distance-parts-requires c κs = search needs
 say-distance-requires : tie.Need-say-distance-requires
 say-distance-requires c κs = search needs
 
-same-length : tie.Need-same-length
-same-length c = search needs
-
 returns : tie.Need-returns
 returns c =
-    let l = c .before .before .before .before .before .before .lay-two .ensures in
-    let q = c .before .before .before .before .before .before .before .before .before .before .before .before .args .q in
     let x = c .before .before .distance-parts .ensures in
+    let l = c .before .before .before .before .before .lay-two .ensures in
+    let q = c .before .before .before .before .before .before .before .before .before .before .args .q in
     answers _ (c .say-distance .ensures) (λ p k. (
       k .is,
       ap distanceText (x ∙ ap₂ (λ (ms ds : List ℕ). answerOf (q .n) ms ds (q .target) (q .d)) (l .first) (l .second)),
@@ -34,4 +37,10 @@ returns c =
 pub tell-distance-spec : {M : Type 1} → statement M
 tell-distance-spec =
     tie.close
-    (tie.spec lay-two-requires distance-parts-requires say-distance-requires same-length returns)
+    (tie.spec
+    slice-aggregate-lay-two
+    lay-two-requires
+    slice-aggregate-distance-parts
+    distance-parts-requires
+    say-distance-requires
+    returns)

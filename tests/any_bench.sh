@@ -1,0 +1,6 @@
+#!/usr/bin/env bash
+# An open on a bench that no calls made: tests/any_bench.c, linked with the proved library.
+set -uo pipefail
+program=$(mktemp) || exit 1
+trap 'rm -f "$program"' EXIT
+cc -std=c11 -Wall -Wextra -Werror -O1 tests/any_bench.c -Ltarget/staticlib -llent -o "$program" && "$program"
