@@ -1,0 +1,45 @@
+-- A struct made from a circuit stands for that circuit, gate by gate. Assumes nothing.
+use mathlib.Core.Path.{_≡_, refl, ap, _∙_, sym}
+use mathlib.Core.List.{List, map}
+use Prim.Native.Nat.{ℕ, _<_, _≤_, _-_, _+_}
+use mathlib.Core.Bool.{Bool}
+use native.Mathlib.Nat.{mod-eq-of-lt}
+use native.Mathlib.Omega.{arith}
+use lib.ListN.{length, getD, List·getD-map}
+use Rattle.circuit.specs.declared.Circuit.{Circuit}
+use Rattle.circuit.specs.declared.Answer.the-variants.{Done}
+use Rattle.circuit.specs.Sizes.{mostOutputs, mostGates, mostLines}
+use Rattle.circuit.specs.Lines.{Gate, Listing, gate, noGate, listing, gateAt, upto}
+use Rattle.circuit.specs.Structs.{column, lineIn, held, gateOf, outOf, listed}
+use Rattle.circuit.specs.Rules.{listingAnswer}
+use Rattle.circuit.proofs.RuleLaws.{gate-fits, out-below, circuit-fits}
+use Rattle.circuit.proofs.Padding.{pad-read}
+use Rattle.circuit.proofs.Upto.{upto-same, upto-all, upto-at}
+
+-- gate k of the circuit that a struct stands for
+pub gate-listed : (c : Circuit) (k : ℕ) → k < c .g → gateAt (listed c) k ≡ gateOf c k
+gate-listed c k h = upto-at (gateOf c) noGate (c .g) k h
+
+-- an entry of a column is the gate's field; past the last gate it is that of no gate
+pub column-read : (f : Gate → ℕ) → f noGate ≡ 0 → (qs : List Gate) (k : ℕ) → getD (column f qs) k 0 ≡ f (getD qs k noGate)
+column-read f e qs k = pad-read (map f qs) (mostGates - length (map f qs)) k 0 ∙ ap (getD (map f qs) k) (sym e) ∙ List·getD-map f qs k noGate
+
+-- a line number below the most is read as it is
+pub line-kept : (x : ℕ) → x < mostLines → lineIn x ≡ x
+line-kept x h = mod-eq-of-lt h
+
+-- an accepted circuit is the one that its struct stands for
+pub listed-held : (only : Bool) (c : Listing) → listingAnswer only c ≡ Done → listed (held c) ≡ c
+listed-held only c h =
+    let f = circuit-fits only c h in
+    let few : c .inputs + length (c .gates) ≤ mostLines = omega (arith, f .shape .n-most, f .shape .g-most) in
+    let qs = c .gates in
+    let g = upto-same (gateOf (held c)) (λ (k : ℕ). getD qs k noGate) (length qs) (λ k l.
+    let o = gate-fits only (c .inputs + k) (getD qs k noGate) (f .gates k l) in
+    let x = ap lineIn (column-read (λ (q : Gate). q .left) refl qs k) ∙ line-kept _ (omega (arith, o .first)) in
+    let y = ap lineIn (column-read (λ (q : Gate). q .right) refl qs k) ∙ line-kept _ (omega (arith, o .second)) in
+    λ i. gate (column-read (λ (q : Gate). q .kind) refl qs k i) (x i) (y i)) ∙ upto-all qs noGate in
+    let o = upto-same (outOf (held c)) (λ (k : ℕ). getD (c .outs) k 0) (length (c .outs)) (λ k l.
+    ap lineIn (pad-read (c .outs) (mostOutputs - length (c .outs)) k 0)
+    ∙ line-kept _ (omega (arith, out-below (c .inputs + length qs) (getD (c .outs) k 0) (f .outs k l)))) ∙ upto-all (c .outs) 0 in
+    λ i. listing (c .inputs) (g i) (o i)
