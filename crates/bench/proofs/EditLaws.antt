@@ -11,19 +11,22 @@ use Rattle.circuit.specs.declared.Answer.{Answer}
 use Rattle.circuit.specs.declared.Answer.the-variants.{Done, Refused}
 use Rattle.circuit.specs.declared.Refusal.{Refusal}
 use Rattle.circuit.specs.declared.Refusal.the-variants.{NotThere, NothingOpen}
-use Rattle.circuit.specs.Gate.{noWords}
-use Rattle.circuit.specs.Lines.{upto, padded}
-use Rattle.circuit.specs.Reading.{unless, outAnswer}
-use Rattle.circuit.proofs.Accept.{Shaped, past}
+use Rattle.circuit.specs.Lines.{padded}
+use Rattle.circuit.specs.Rules.{unless, outAnswer}
+use Rattle.circuit.specs.Sizes.{mostOutputs}
+use Rattle.circuit.specs.Structs.{putOutputs, held}
+use Rattle.circuit.proofs.Shapes.{Shaped, past}
 use Rattle.circuit.proofs.Padding.{padded-set}
+use Rattle.circuit.proofs.RuleLaws.{out-below}
+use Rattle.targets.specs.Wanted.{wantedOf}
 use Rattle.bench.specs.declared.Bench.{Bench}
 use Rattle.bench.specs.declared.Edit.{Edit}
 use Rattle.bench.specs.declared.Edited.{Edited}
-use Rattle.bench.specs.State.{State, Sound, SoundPresent, Present, nothing, present, limits}
-use Rattle.bench.specs.Held.{wantedWords, emptyBench, fullBench, benchOf, Stands}
+use Rattle.bench.specs.State.{State, Sound, SoundPresent, Present, nothing, present, limits, Limits}
+use Rattle.bench.specs.Held.{emptyBench, fullBench, benchOf, Stands, recircuited, limited, circuitOf, retargeted}
 use Rattle.bench.specs.Calls.{after, noRework, outputEditAnswer, outputEdited, afterOutput, afterLimits, OutputPromise, LimitsPromise}
 use Rattle.bench.specs.Parts.{standing, outputLook, unreworked}
-use Rattle.bench.proofs.Standing.{full-standing, out-below}
+use Rattle.bench.proofs.Standing.{full-standing}
 use Rattle.bench.proofs.Stood.{openOn, standing-shaped, when-open, when-shut}
 
 -- ---- any edit that reworks no line, given by its answer, by what is present after it, and by what the code looks at
@@ -55,26 +58,7 @@ module _ (answer : Present → Answer) (next : Present → Present) (look : Benc
 
 -- the bench with other outputs
 abbrev pub pointing : Bench → List ℕ → Bench
-pointing b os =
-    record {
-      «is_open» = b .«is_open»;
-      «is_matrix» = b .«is_matrix»;
-      n = b .n;
-      m = b .m;
-      g = b .g;
-      «max_gates» = b .«max_gates»;
-      «max_depth» = b .«max_depth»;
-      «max_and_depth» = b .«max_and_depth»;
-      kinds = b .kinds;
-      left = b .left;
-      right = b .right;
-      outputs = os;
-      target = b .target;
-      wanted = b .wanted;
-      depths = b .depths;
-      «and_depths» = b .«and_depths»;
-      values = b .values;
-    }
+pointing b os = recircuited b (putOutputs (circuitOf b) os)
 
 -- what an accepted look shows, on any bench
 pub record OutputFits (n m g j line : ℕ) : Type 0 where
@@ -109,26 +93,10 @@ module _ (j line : ℕ) where
   unfolding fullBench
   output-pointed s h =
       let l = sym (length-set (s .circuit .outs) j line) in
-      let o = padded-set 32 0 (s .circuit .outs) j line h in
-      λ i. record {
-        «is_open» = true;
-        «is_matrix» = fullBench s .«is_matrix»;
-        n = fullBench s .n;
-        m = l i;
-        g = fullBench s .g;
-        «max_gates» = fullBench s .«max_gates»;
-        «max_depth» = fullBench s .«max_depth»;
-        «max_and_depth» = fullBench s .«max_and_depth»;
-        kinds = fullBench s .kinds;
-        left = fullBench s .left;
-        right = fullBench s .right;
-        outputs = o i;
-        target = fullBench s .target;
-        wanted = padded 32 noWords (upto (wantedWords (s .target)) (l i));
-        depths = fullBench s .depths;
-        «and_depths» = fullBench s .«and_depths»;
-        values = fullBench s .values;
-      }
+      let o = padded-set mostOutputs 0 (s .circuit .outs) j line h in
+      let c = held (s .circuit) in
+      λ i. retargeted (recircuited (fullBench s) (record { n = c .n; m = l i; g = c .g; kinds = c .kinds; left = c .left; right = c .right; outputs = o i }))
+      (fullBench s .target) (wantedOf (s .target) (l i))
 
   -- a refused edit leaves what is present
   pub output-kept : (p : Present) (w : Refusal) → outputEditAnswer p j line ≡ Refused w → afterOutput p j line ≡ p
@@ -157,38 +125,15 @@ module _ (j line : ℕ) where
 
 -- ---- setting the limits
 
--- the bench with other limits
-abbrev pub limited : Bench → ℕ → ℕ → ℕ → Bench
-limited b g d a =
-    record {
-      «is_open» = b .«is_open»;
-      «is_matrix» = b .«is_matrix»;
-      n = b .n;
-      m = b .m;
-      g = b .g;
-      «max_gates» = g;
-      «max_depth» = d;
-      «max_and_depth» = a;
-      kinds = b .kinds;
-      left = b .left;
-      right = b .right;
-      outputs = b .outputs;
-      target = b .target;
-      wanted = b .wanted;
-      depths = b .depths;
-      «and_depths» = b .«and_depths»;
-      values = b .values;
-    }
-
-module _ (b : Bench) (g d a : ℕ) (r : Edited) where
-  full-limited : (s : State) → limited (fullBench s) g d a ≡ benchOf (afterLimits (present s) (limits g d a))
+module _ (b : Bench) (l : Limits) (r : Edited) where
+  full-limited : (s : State) → limited (fullBench s) l ≡ benchOf (afterLimits (present s) l)
   unfolding fullBench
   full-limited s = refl
 
-  pub limits-open : openOn b ≡ true → r ≡ unreworked (limited b g d a) Done → LimitsPromise b (limits g d a) (r .edit) (r .bench)
+  pub limits-open : openOn b ≡ true → r ≡ unreworked (limited b l) Done → LimitsPromise b l (r .edit) (r .bench)
   limits-open t e =
       when-open _ b t
-      (λ s ok is. (ap (λ (z : Edited). z .edit) e, ap (λ (z : Edited). z .bench) e ∙ ap (λ (x : Bench). limited x g d a) is ∙ full-limited s))
+      (λ s ok is. (ap (λ (z : Edited). z .edit) e, ap (λ (z : Edited). z .bench) e ∙ ap (λ (x : Bench). limited x l) is ∙ full-limited s))
 
-  pub limits-shut : openOn b ≡ false → r ≡ unreworked b (Refused NothingOpen) → LimitsPromise b (limits g d a) (r .edit) (r .bench)
+  pub limits-shut : openOn b ≡ false → r ≡ unreworked b (Refused NothingOpen) → LimitsPromise b l (r .edit) (r .bench)
   limits-shut t e = when-shut _ b t (λ is. (ap (λ (z : Edited). z .edit) e, ap (λ (z : Edited). z .bench) e ∙ is))

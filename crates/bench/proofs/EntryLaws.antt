@@ -1,122 +1,66 @@
 -- What changing an entry of the target leaves, from what was looked at first. Assumes nothing.
 use mathlib.Core.Path.{_≡_, refl, ap, _∙_, sym}
 use mathlib.Core.Bool.{Bool, true, false, cond, _&&_}
-use mathlib.Core.List.{List, [], _∷_}
-use Prim.Native.Nat.{ℕ, zero, suc, _<_, _≤_, _-_, _+_, _%_, _^_}
+use mathlib.Core.List.{List}
+use Prim.Native.Nat.{ℕ, _<_, _≤_, _-_, _%_, _^_}
 use native.Mathlib.Omega.{arith}
 use native.Mathlib.Nat.{mod-eq-of-lt}
 use lib.Dec.{leb, ltb, eqb}
-use lib.ListN.{length, getD, set, length-set}
+use lib.ListN.{length, set, length-set}
 use lib.Pow.{pow-mono}
 use borrow.Author.Tests.{leb-true, ltb-true, eqb-true, eq-eqb}
-use Rattle.circuit.specs.declared.Words.{Words}
 use Rattle.circuit.specs.declared.Answer.{Answer}
 use Rattle.circuit.specs.declared.Answer.the-variants.{Done, Refused}
 use Rattle.circuit.specs.declared.Refusal.{Refusal}
 use Rattle.circuit.specs.declared.Refusal.the-variants.{Target as BadTarget, NotThere, NothingOpen}
-use Rattle.circuit.specs.Gate.{bit, noWords}
-use Rattle.circuit.specs.Lines.{Listing, upto, padded}
-use Rattle.circuit.specs.Reading.{unless}
-use Rattle.circuit.proofs.Accept.{Shaped, past, both}
-use Rattle.circuit.proofs.Padding.{pad-read, padded-set}
+use Rattle.circuit.specs.Lines.{Listing, padded}
+use Rattle.circuit.specs.Rules.{unless}
+use Rattle.circuit.specs.Sizes.{mostInputs, mostValues}
+use Rattle.circuit.proofs.Shapes.{Shaped, past, both}
+use Rattle.circuit.proofs.Padding.{padded-set}
+use Rattle.circuit.proofs.RuleLaws.{circuit-fits}
+use Rattle.targets.specs.Target.{Target, matrix, table, isMatrix, targetBytes, rowFits, entryFits, targetFits, targetOf, valueFits}
+use Rattle.targets.specs.Wanted.{wantedOf}
+use Rattle.targets.proofs.Fitting.{all-set}
+use Rattle.targets.proofs.Wanting.{wanted-padded}
 use Rattle.bench.specs.declared.Bench.{Bench}
 use Rattle.bench.specs.declared.Edited.{Edited}
-use Rattle.bench.specs.Target.{Target, matrix, table, isMatrix, targetBytes, rowFits, entryFits, allOf, targetFits, targetOf}
-use Rattle.bench.specs.State.{State, Sound, Present, nothing, present}
-use Rattle.bench.specs.Held.{packed, rowWords, wantedWords, emptyBench, fullBench, benchOf, Stands}
+use Rattle.bench.specs.State.{State, withTarget, Sound, Present, nothing, present}
+use Rattle.bench.specs.Held.{emptyBench, fullBench, benchOf, Stands, benchWith, retargeted, circuitOf}
 use Rattle.bench.specs.Calls.{after, entryAnswer, entryEditAnswer, withEntry, entryEdited, afterEntry, EntryPromise}
-use Rattle.bench.specs.Parts.{valueFits, standing, entryLook, unreworked}
-use Rattle.bench.proofs.Standing.{circuit-fits, full-standing}
+use Rattle.bench.specs.Parts.{standing, entryLook, unreworked}
+use Rattle.bench.proofs.Standing.{full-standing}
 use Rattle.bench.proofs.Stood.{standing-shaped}
 use Rattle.bench.proofs.EditLaws.{edit-refused, edit-done}
 
--- ---- what a target wants, from its bytes with zeros past the last
-
-pub wanted-padded : (t : Target) (j : ℕ) → wantedWords (targetOf (isMatrix t) (padded 256 0 (targetBytes t))) j ≡ wantedWords t j
-unfolding wantedWords
-wanted-padded (matrix rows) j = ap (rowWords 8) (pad-read rows (256 - length rows) j 0)
-wanted-padded (table entries) j =
-    let e : (k : ℕ) → getD (padded 256 0 entries) k 0 ≡ getD entries k 0 = λ k. pad-read entries (256 - length entries) k 0 in
-    λ i. record {
-      w0 = packed (λ (b : ℕ). bit j (e b i)) 64;
-      w1 = packed (λ (b : ℕ). bit j (e (64 + b) i)) 64;
-      w2 = packed (λ (b : ℕ). bit j (e (128 + b) i)) 64;
-      w3 = packed (λ (b : ℕ). bit j (e (192 + b) i)) 64;
-    }
-
 -- ---- the bench with another target
-
-abbrev pub retargeted : Bench → List ℕ → List Words → Bench
-retargeted b T w =
-    record {
-      «is_open» = b .«is_open»;
-      «is_matrix» = b .«is_matrix»;
-      n = b .n;
-      m = b .m;
-      g = b .g;
-      «max_gates» = b .«max_gates»;
-      «max_depth» = b .«max_depth»;
-      «max_and_depth» = b .«max_and_depth»;
-      kinds = b .kinds;
-      left = b .left;
-      right = b .right;
-      outputs = b .outputs;
-      target = T;
-      wanted = w;
-      depths = b .depths;
-      «and_depths» = b .«and_depths»;
-      values = b .values;
-    }
 
 -- these bytes, and what they want of each output
 abbrev pub aimed : Bench → List ℕ → Bench
-aimed b T = retargeted b T (padded 32 noWords (upto (wantedWords (targetOf (b .«is_matrix») T)) (b .m)))
+aimed b T = retargeted b T (wantedOf (targetOf (b .«is_matrix») T) (b .m))
 
-aimed-full : (s : State) (t : Target) (T : List ℕ) → isMatrix (s .target) ≡ isMatrix t → T ≡ padded 256 0 (targetBytes t)
-    → aimed (fullBench s) T ≡ fullBench (record { circuit = s .circuit; target = t; limits = s .limits })
+aimed-full : (s : State) (t : Target) (T : List ℕ) → isMatrix (s .target) ≡ isMatrix t → T ≡ padded mostValues 0 (targetBytes t)
+    → aimed (fullBench s) T ≡ fullBench (withTarget s t)
 unfolding fullBench
 aimed-full s t T same e =
-    let w : (j : ℕ) → wantedWords (targetOf (isMatrix (s .target)) T) j ≡ wantedWords t j =
-    λ j. (λ i. wantedWords (targetOf (same i) (e i)) j) ∙ wanted-padded t j in
-    λ i. record {
-      «is_open» = true;
-      «is_matrix» = same i;
-      n = fullBench s .n;
-      m = fullBench s .m;
-      g = fullBench s .g;
-      «max_gates» = fullBench s .«max_gates»;
-      «max_depth» = fullBench s .«max_depth»;
-      «max_and_depth» = fullBench s .«max_and_depth»;
-      kinds = fullBench s .kinds;
-      left = fullBench s .left;
-      right = fullBench s .right;
-      outputs = fullBench s .outputs;
-      target = e i;
-      wanted = padded 32 noWords (upto (λ (j : ℕ). w j i) (length (s .circuit .outs)));
-      depths = fullBench s .depths;
-      «and_depths» = fullBench s .«and_depths»;
-      values = fullBench s .values;
-    }
+    let m = length (s .circuit .outs) in
+    let w = (λ i. wantedOf (targetOf (same i) (e i)) m) ∙ wanted-padded t m in
+    λ i. benchWith true (circuitOf (fullBench s)) (same i) (e i) (w i) (s .limits) (fullBench s .depths) (fullBench s .«and_depths») (fullBench s .values)
 
--- ---- what an accepted look shows, on any bench
+-- ---- an accepted look shows that the entry is within the array, on any bench
 
-below-byte : (k x : ℕ) → k ≤ 8 → x < 2 ^ k → x < 256
+below-byte : (k x : ℕ) → k ≤ mostInputs → x < 2 ^ k → x < mostValues
 below-byte k x h l = omega (arith, pow-mono {i = k} {j = 8} h)
 
-pub record EntryFits (n m g i : ℕ) : Type 0 where
-  pub shape : Shaped n m g
-  pub there : i < 256
-
-pub entry-fits : (opened only : Bool) (n m g i value : ℕ) → entryLook opened only n m g i value ≡ Done → EntryFits n m g i
+pub entry-there : (opened only : Bool) (n m g i value : ℕ) → entryLook opened only n m g i value ≡ Done → i < mostValues
 unfolding entryLook
-entry-fits opened only n m g i value h =
+entry-there opened only n m g i value h =
     let p = past (standing opened n m g) NothingOpen h in
-    let ok = standing-shaped opened n m g (p .0) in
     let q = past (ltb i (cond only m (2 ^ n))) NotThere (p .1) in
-    record { shape = ok; there = by only ok (ltb-true i (cond only m (2 ^ n)) (q .0)) } where
-      by : (t : Bool) → Shaped n m g → i < cond t m (2 ^ n) → i < 256
+    by only (standing-shaped opened n m g (p .0)) (ltb-true i (cond only m (2 ^ n)) (q .0)) where
+      by : (t : Bool) → Shaped n m g → i < cond t m (2 ^ n) → i < mostValues
       by true ok l = omega (arith, ok)
-      by false ok l = below-byte n i (ok .n8) l
+      by false ok l = below-byte n i (ok .n-most) l
 
 -- ---- what an accepted entry shows of a state
 
@@ -126,14 +70,8 @@ pub record EntryRight (n m i value : ℕ) (t : Target) : Type 0 where
   pub small : value < 256
   pub fits : targetFits n m (withEntry t i value) ≡ true
 
-all-set : (p : ℕ → Bool) (l : List ℕ) (i v : ℕ) → allOf p l ≡ true → p v ≡ true → allOf p (set l i v) ≡ true
-unfolding allOf
-all-set p [] i v h q = refl
-all-set p (x ∷ l) zero v h q = λ k. q k && both (p x) h .1 k
-all-set p (x ∷ l) (suc i) v h q = λ k. both (p x) h .0 k && all-set p l i v (both (p x) h .1) q k
-
 module _ (i value : ℕ) where
-  entry-right : (c : Listing) (t : Target) → c .inputs ≤ 8 → targetFits (c .inputs) (length (c .outs)) t ≡ true
+  entry-right : (c : Listing) (t : Target) → c .inputs ≤ mostInputs → targetFits (c .inputs) (length (c .outs)) t ≡ true
       → entryAnswer c t i value ≡ Done → EntryRight (c .inputs) (length (c .outs)) i value t
   unfolding targetFits rowFits entryFits
   entry-right c (matrix rows) n8 f a =
@@ -170,7 +108,7 @@ module _ (i value : ℕ) where
       → EntryRight (s .circuit .inputs) (length (s .circuit .outs)) i value (s .target)
   unfolding entryEditAnswer
   entry-accepted s ok a =
-      entry-right (s .circuit) (s .target) (circuit-fits (isMatrix (s .target)) (s .circuit) (ok .circuit) .shape .n8) (ok .target) a
+      entry-right (s .circuit) (s .target) (circuit-fits (isMatrix (s .target)) (s .circuit) (ok .circuit) .shape .n-most) (ok .target) a
 
   -- ---- the call
 
@@ -214,8 +152,8 @@ module _ (i value : ℕ) where
   unfolding fullBench
   entry-entered s r =
       aimed-full s (withEntry (s .target) i value) _ (same-kind (s .target))
-      (ap (set (padded 256 0 (targetBytes (s .target))) i) (mod-eq-of-lt (r .small)) ∙ padded-set 256 0 (targetBytes (s .target)) i value (r .there) ∙ bytes (s .target)) where
-        bytes : (t : Target) → padded 256 0 (set (targetBytes t) i value) ≡ padded 256 0 (targetBytes (withEntry t i value))
+      (ap (set (padded mostValues 0 (targetBytes (s .target))) i) (mod-eq-of-lt (r .small)) ∙ padded-set mostValues 0 (targetBytes (s .target)) i value (r .there) ∙ bytes (s .target)) where
+        bytes : (t : Target) → padded mostValues 0 (set (targetBytes t) i value) ≡ padded mostValues 0 (targetBytes (withEntry t i value))
         bytes (matrix rows) = refl
         bytes (table entries) = refl
 

@@ -6,14 +6,6 @@ pub mod Turn
 pub mod Places
 pub mod Replacing
 pub mod Readers
-pub mod Fitting
-pub mod Packing
-pub mod Wanting
-pub mod Smallest
-pub mod Differing
-pub mod Blocks
-pub mod Judging
-pub mod PassLaws
 pub mod Stood
 pub mod StoreLaws
 pub mod EditLaws

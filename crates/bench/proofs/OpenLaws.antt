@@ -1,91 +1,61 @@
 -- What opening leaves: the bench with a circuit and its target placed on it is the one that stands for them. Assumes nothing.
 use mathlib.Core.Path.{_≡_, refl, ap, _∙_, sym, subst}
-use mathlib.Core.Bool.{Bool, true, false}
+use mathlib.Core.Bool.{Bool, true}
 use mathlib.Core.List.{List}
-use Prim.Native.Nat.{ℕ, _≤_, _^_}
+use Prim.Native.Nat.{ℕ, _≤_}
 use native.Mathlib.Omega.{arith}
-use lib.Dec.{leb, eqb}
-use lib.ListN.{length, replicate}
-use lib.Pow.{pow-mono}
-use borrow.Author.Tests.{eqb-true}
+use lib.ListN.{length}
 use Rattle.circuit.specs.declared.Words.{Words}
 use Rattle.circuit.specs.declared.Circuit.{Circuit}
-use Rattle.circuit.specs.declared.Reading.{Reading}
 use Rattle.circuit.specs.declared.Answer.{Answer}
 use Rattle.circuit.specs.declared.Answer.the-variants.{Done, Refused}
 use Rattle.circuit.specs.declared.Refusal.{Refusal}
 use Rattle.circuit.specs.declared.Refusal.the-variants.{Target as BadTarget}
-use Rattle.circuit.specs.Gate.{noWords}
-use Rattle.circuit.specs.Lines.{Listing, gateAt, upto, padded}
-use Rattle.circuit.specs.Stored.{held, listingIn}
-use Rattle.circuit.specs.Reading.{unless, andThen, readAnswer, reading, readingOf, listingAnswer}
-use Rattle.circuit.proofs.Accept.{Shaped, both}
-use Rattle.circuit.proofs.Round.{answer-stored, stored-listing}
+use Rattle.circuit.specs.Lines.{Listing, gateAt, padded}
+use Rattle.circuit.specs.Structs.{held}
+use Rattle.circuit.specs.Rules.{unless, andThen}
+use Rattle.circuit.specs.Sizes.{mostValues}
+use Rattle.circuit.proofs.Shapes.{Shaped}
+use Rattle.circuit.proofs.RuleLaws.{circuit-fits, CircuitFits}
+use Rattle.stored.specs.declared.Reading.{Reading}
+use Rattle.stored.specs.Stored.{listingIn}
+use Rattle.stored.specs.Reading.{readAnswer, reading, readingOf}
+use Rattle.stored.proofs.Round.{listing-accepted}
+use Rattle.targets.specs.Target.{Target, isMatrix, targetBytes, targetFits, targetOf}
+use Rattle.targets.specs.Wanted.{wantedOf}
+use Rattle.targets.proofs.Fitting.{kind-of, bytes-of, target-short}
+use Rattle.targets.proofs.Wanting.{wanted-padded}
 use Rattle.bench.specs.declared.Bench.{Bench}
 use Rattle.bench.specs.declared.Opened.{Opened}
-use Rattle.bench.specs.Target.{Target, matrix, table, isMatrix, targetBytes, targetFits, targetOf}
 use Rattle.bench.specs.State.{Limits, State, Present, limits}
-use Rattle.bench.specs.Held.{wantedWords, fullBench, benchOf, Stands}
+use Rattle.bench.specs.Held.{fullBench, benchOf, Stands, unexamined}
 use Rattle.bench.specs.Calls.{after, openAnswer, openState, afterOpen, benchAfterOpen, OpenPromise}
 use Rattle.bench.specs.Parts.{gateOn, examinedAs, examined, placedOf}
-use Rattle.bench.proofs.Standing.{circuit-fits, gate-of, full-examined, examined-same}
-use Rattle.bench.proofs.StoreLaws.{circuit-of-full}
-use Rattle.bench.proofs.EntryLaws.{wanted-padded}
+use Rattle.bench.proofs.Standing.{gate-of, full-examined, examined-same}
 
 -- ---- the bench with a circuit, a target and limits
 
--- nothing is examined yet
-abbrev pub bare : Circuit → Bool → List ℕ → List Words → ℕ → ℕ → ℕ → Bench
-bare c only T W gates depth ands =
-    record {
-      «is_open» = true;
-      «is_matrix» = only;
-      n = c .n;
-      m = c .m;
-      g = c .g;
-      «max_gates» = gates;
-      «max_depth» = depth;
-      «max_and_depth» = ands;
-      kinds = c .kinds;
-      left = c .left;
-      right = c .right;
-      outputs = c .outputs;
-      target = T;
-      wanted = W;
-      depths = replicate 256 0;
-      «and_depths» = replicate 256 0;
-      values = replicate 256 noWords;
-    }
-
 -- as the code places it
-pub placed-by : (c : Circuit) (only : Bool) (bytes T : List ℕ) (W : List Words) (gates depth ands : ℕ) → T ≡ padded 256 0 bytes
-    → W ≡ padded 32 noWords (upto (wantedWords (targetOf only T)) (c .m))
-    → examined (bare c only T W gates depth ands) ≡ placedOf c only bytes gates depth ands
+pub placed-by : (c : Circuit) (only : Bool) (bytes T : List ℕ) (W : List Words) (l : Limits) → T ≡ padded mostValues 0 bytes
+    → W ≡ wantedOf (targetOf only T) (c .m) → examined (unexamined true c only T W l) ≡ placedOf c only bytes l
 unfolding placedOf
-placed-by c only bytes T W gates depth ands e f =
-    let w = f ∙ ap (λ (l : List ℕ). padded 32 noWords (upto (wantedWords (targetOf only l)) (c .m))) e in
-    λ i. examined (bare c only (e i) (w i) gates depth ands)
+placed-by c only bytes T W l e f =
+    let w = f ∙ ap (λ (x : List ℕ). wantedOf (targetOf only x) (c .m)) e in
+    λ i. examined (unexamined true c only (e i) (w i) l)
 
-module _ (s : State) where
-  full-examining : s .circuit .inputs ≤ 8 → examined (fullBench s) ≡ fullBench s
-  full-examining n8 =
-      examined-same (fullBench s) (gateAt (s .circuit)) (gateOn (fullBench s)) (λ i h. gate-of s i) ∙ sym (full-examined s n8)
+module _ (s : State) (f : CircuitFits (isMatrix (s .target)) (s .circuit)) where
+  full-examining : examined (fullBench s) ≡ fullBench s
+  full-examining =
+      examined-same (fullBench s) (gateAt (s .circuit)) (gateOn (fullBench s)) (λ i h. gate-of s f i) ∙ sym (full-examined s (f .shape .n-most))
 
-  pub placed-full : s .circuit .inputs ≤ 8
-      → placedOf (held (s .circuit)) (isMatrix (s .target)) (targetBytes (s .target)) (s .limits .gates) (s .limits .depth) (s .limits .andDepth) ≡ fullBench s
+  pub placed-full : placedOf (held (s .circuit)) (isMatrix (s .target)) (targetBytes (s .target)) (s .limits) ≡ fullBench s
   unfolding placedOf fullBench examinedAs
-  placed-full n8 =
+  placed-full =
       let t = s .target in
-      let c = sym (circuit-of-full s) in
-      (λ i. examined (bare (c i) (isMatrix t) (padded 256 0 (targetBytes t)) (padded 32 noWords (upto (λ (j : ℕ). wanted-padded t j i) (length (s .circuit .outs))))
-      (s .limits .gates) (s .limits .depth) (s .limits .andDepth)))
-      ∙ full-examining n8
+      (λ i. examined (unexamined true (held (s .circuit)) (isMatrix t) (padded mostValues 0 (targetBytes t)) (wanted-padded t (length (s .circuit .outs)) i) (s .limits)))
+      ∙ full-examining
 
 -- ---- what the reader's result shows
-
--- the circuit in bytes that the reader accepts is accepted itself
-pub listing-accepted : (only : Bool) (s : List ℕ) → readAnswer only s ≡ Done → listingAnswer only (listingIn s) ≡ Done
-listing-accepted only s h = sym (answer-stored only (listingIn s)) ∙ ap (readAnswer only) (stored-listing only s h) ∙ h
 
 module _ (only : Bool) (s : List ℕ) (r : Reading) (is : r ≡ readingOf only s) where
   pub read-answer : r .answer ≡ readAnswer only s
@@ -101,24 +71,6 @@ module _ (only : Bool) (s : List ℕ) (r : Reading) (is : r ≡ readingOf only s
   read-shaped h =
       let f = circuit-fits only (listingIn s) (listing-accepted only s (sym read-answer ∙ h)) in
       subst (λ (c : Circuit). Shaped (c .n) (c .m) (c .g)) (sym (read-circuit h)) (f .shape)
-
--- ---- the target's bytes
-
-pub kind-of : (only : Bool) (bytes : List ℕ) → isMatrix (targetOf only bytes) ≡ only
-kind-of true bytes = refl
-kind-of false bytes = refl
-
-pub bytes-of : (only : Bool) (bytes : List ℕ) → targetBytes (targetOf only bytes) ≡ bytes
-bytes-of true bytes = refl
-bytes-of false bytes = refl
-
--- a target that keeps its rule has room on the bench
-pub target-short : (n m : ℕ) (t : Target) → n ≤ 8 → m ≤ 32 → targetFits n m t ≡ true → length (targetBytes t) ≤ 256
-unfolding targetFits
-target-short n m (matrix rows) n8 m32 f = omega (arith, eqb-true (length rows) m (both (eqb (length rows) m) f .0))
-target-short n m (table entries) n8 m32 f =
-    let k = both (eqb (length entries) (2 ^ n)) (both (leb m 8) f .1) in
-    omega (arith, eqb-true (length entries) (2 ^ n) (k .0), pow-mono {i = n} {j = 8} n8)
 
 -- ---- the call
 
@@ -166,13 +118,14 @@ module _ (only : Bool) (bytes tb : List ℕ) where
         let e = read-circuit only bytes r is h in
         open-answer Done t (sym (read-answer only bytes r is) ∙ h) ((λ i. targetFits (sym e i .n) (sym e i .m) brought) ∙ f)
 
-    pub open-short : targetFits (r .circuit .n) (r .circuit .m) brought ≡ true → length tb ≤ 256
+    pub open-short : targetFits (r .circuit .n) (r .circuit .m) brought ≡ true → length tb ≤ mostValues
     open-short f =
         let k = read-shaped only bytes r is h in
-        omega (arith, target-short (r .circuit .n) (r .circuit .m) brought (k .n8) (k .m32) f, ap length (bytes-of only tb))
+        omega (arith, target-short (r .circuit .n) (r .circuit .m) brought (k .n-most) (k .m-most) f, ap length (bytes-of only tb))
 
-    pub open-placed : (g d a : ℕ) → placedOf (r .circuit) only tb g d a ≡ fullBench (openState bytes brought (limits g d a))
-    open-placed g d a =
+    pub open-placed : (l : Limits) → placedOf (r .circuit) only tb l ≡ fullBench (openState bytes brought l)
+    open-placed l =
         let e = read-circuit only bytes r is h in
-        let n8 = circuit-fits only found (listing-accepted only bytes (sym (read-answer only bytes r is) ∙ h)) .shape .n8 in
-        (λ i. placedOf (e i) (sym (kind-of only tb) i) (sym (bytes-of only tb) i) g d a) ∙ placed-full (openState bytes brought (limits g d a)) n8
+        let f = circuit-fits only found (listing-accepted only bytes (sym (read-answer only bytes r is) ∙ h)) in
+        (λ i. placedOf (e i) (sym (kind-of only tb) i) (sym (bytes-of only tb) i) l)
+        ∙ placed-full (openState bytes brought l) (subst (λ (t : Bool). CircuitFits t found) (sym (kind-of only tb)) f)

@@ -1,15 +1,14 @@
--- The list of marked places: ascending, each marked place and no other, as long as the set is large; and the loop of `list_lines`. Assumes nothing.
+-- The list of marked places: ascending, each marked place and no other, as long as the set is large; and one line more. Assumes nothing.
 use mathlib.Core.Path.{_≡_, refl, ap, ap₂, _∙_, sym}
 use mathlib.Core.Bool.{Bool, true, false, true≢false, cond}
 use mathlib.Core.Logic.{⊎-elim}
 use mathlib.Core.List.{List, [], _∷_, _++_, append-nil, List·Memᴰ, List·Memᴰ·head, List·Memᴰ·tail, List·Memᴰ·not-nil, List·Memᴰ·cases-cons, Memᴰ·cast}
 use Prim.Native.Nat.{ℕ, zero, suc, _≤_, _<_, _-_, _+_}
 use native.Mathlib.Omega.{arith}
-use native.Mathlib.Numerals.{add-one}
-use lib.ListN.{length, getD, set, take, replicate, length-append}
-use lib.Seq.{take-suc, take-all, length-take-le}
+use lib.ListN.{length, getD, set, replicate, length-append}
 use Rattle.circuit.specs.declared.Answer.the-variants.{Done}
 use Rattle.circuit.specs.Lines.{padded}
+use Rattle.circuit.specs.Sizes.{mostLines}
 use Rattle.circuit.proofs.Padding.{padded-put}
 use Rattle.bench.specs.declared.Edit.{Edit}
 use Rattle.bench.specs.Calls.{placesFrom, sizeOf, reworking}
@@ -35,27 +34,10 @@ size-places i [] = refl
 size-places i (true ∷ xs) = ap suc (size-places (suc i) xs)
 size-places i (false ∷ xs) = size-places (suc i) xs
 
-places-short : (i : ℕ) (xs : List Bool) → length (placesFrom i xs) ≤ length xs
-unfolding placesFrom
-places-short i [] = omega arith
-places-short i (true ∷ xs) = omega (arith, places-short (suc i) xs)
-places-short i (false ∷ xs) = omega (arith, places-short (suc i) xs)
-
 places-none : (i m : ℕ) → placesFrom i (replicate m false) ≡ []
 unfolding placesFrom
 places-none i zero = refl
 places-none i (suc m) = places-none (suc i) m
-
--- places that are not marked add nothing at the end
-pub places-padded : (xs : List Bool) (m : ℕ) → placesFrom 0 (xs ++ replicate m false) ≡ placesFrom 0 xs
-places-padded xs m =
-    places-append 0 xs (replicate m false) ∙ ap (λ (l : List ℕ). placesFrom 0 xs ++ l) (places-none (0 + length xs) m) ∙ append-nil (placesFrom 0 xs)
-
-pub reworking-padded : (xs : List Bool) (m : ℕ) → reworking (xs ++ replicate m false) ≡ reworking xs
-reworking-padded xs m =
-    let p = places-padded xs m in
-    let q = size-places 0 (xs ++ replicate m false) ∙ ap length p ∙ sym (size-places 0 xs) in
-    λ i. record { answer = Done; lines = padded 256 0 (p i); count = q i }
 
 -- ---- which places are listed, and in which order
 
@@ -112,58 +94,45 @@ places-ascend i (true ∷ xs) zero (suc b) h l = omega (arith, places-least (suc
 places-ascend i (true ∷ xs) (suc a) (suc b) h l = places-ascend (suc i) xs a b (omega arith) (omega arith)
 places-ascend i (false ∷ xs) a b h l = places-ascend (suc i) xs a b h l
 
--- ---- the loop of `list_lines`
+-- ---- the list as it grows, a line at a time
 
-pub record Listed (marks : List Bool) (lines : List ℕ) (count i : ℕ) : Type 0 where
-  pub upto : i ≤ 256
-  pub small : count ≤ i
-  pub counts : count ≡ length (placesFrom 0 (take i marks))
-  pub is : lines ≡ padded 256 0 (placesFrom 0 (take i marks))
+-- these lines, and so many of them, are an accepted edit's answer with that set
+abbrev pub Tells : List ℕ → ℕ → List Bool → Type 0
+Tells lines count marks = _≡_ {A = Edit} (record { answer = Done; lines = lines; count = count }) (reworking marks)
 
-pub moved-list : {marks : List Bool} {lines lines′ : List ℕ} {count count′ i : ℕ} → lines′ ≡ lines → count′ ≡ count → Listed marks lines count i → Listed marks lines′ count′ i
-moved-list p q t = rw (p, q) t
+-- what makes two answers one: the same list
+told : (lines : List ℕ) (count : ℕ) (marks : List Bool) → lines ≡ padded mostLines 0 (placesFrom 0 marks) → count ≡ length (placesFrom 0 marks) → Tells lines count marks
+told lines count marks p q = let n = q ∙ sym (size-places 0 marks) in λ i. record { answer = Done; lines = p i; count = n i }
 
-pub list-start : (marks : List Bool) → Listed marks (replicate 256 0) 0 0
-unfolding placesFrom
-list-start marks = record { upto = omega arith; small = omega arith; counts = refl; is = refl }
+-- no line
+pub tells-none : (m : ℕ) → Tells (replicate mostLines 0) 0 (replicate m false)
+tells-none m =
+    let e = sym (places-none 0 m) in
+    told (replicate mostLines 0) 0 (replicate m false) (ap (padded mostLines 0) e) (ap length e)
 
-module _ (marks : List Bool) (size : length marks ≡ 256) (lines : List ℕ) (count i : ℕ) (h : i < 256) (t : Listed marks lines count i) where
-  -- one place more
-  places-next : (x : Bool) → getD marks i false ≡ x → placesFrom 0 (take (i + 1) marks) ≡ placesFrom 0 (take i marks) ++ cond x (i ∷ []) []
+module _ (lines : List ℕ) (count : ℕ) (marks : List Bool) (t : Tells lines count marks) where
+  abbrev L : List ℕ
+  L = placesFrom 0 marks
+
+  counts : count ≡ length L
+  counts = ap (λ (e : Edit). e .count) t ∙ size-places 0 marks
+
+  places-next : (x : Bool) → placesFrom 0 (marks ++ (x ∷ [])) ≡ L ++ cond x (length marks ∷ []) []
   unfolding placesFrom
-  places-next x e =
-      let z : 0 + length (take i marks) ≡ i = omega (arith, length-take-le i marks (omega arith)) in
-      ap (placesFrom 0) (ap (λ (n : ℕ). take n marks) (add-one i) ∙ take-suc marks i false (omega arith) ∙ ap (λ (y : Bool). take i marks ++ (y ∷ [])) e)
-      ∙ places-append 0 (take i marks) (x ∷ []) ∙ ap (λ (k : ℕ). placesFrom 0 (take i marks) ++ placesFrom k (x ∷ [])) z
+  places-next x =
+      let z : 0 + length marks ≡ length marks = omega arith in
+      places-append 0 marks (x ∷ []) ∙ ap (λ (k : ℕ). L ++ placesFrom k (x ∷ [])) z
 
-  pub list-hit : (v : ℕ) → v ≡ i → getD marks i false ≡ true → Listed marks (set lines count v) (count + 1) (i + 1)
-  list-hit v f e =
-      let l = placesFrom 0 (take i marks) in
-      let n = places-next true e in
-      record {
-        upto = omega arith;
-        small = omega (arith, t .small);
-        counts = sym (ap length n ∙ length-append l (i ∷ []) ∙ ap (λ (x : ℕ). x + 1) (sym (t .counts)));
-        is =
-            ap₂ (λ (x : List ℕ) (y : ℕ). set x count y) (t .is) f
-            ∙ padded-put 256 0 l count i (t .counts) (omega (arith, t .small))
-            ∙ ap (padded 256 0) (sym n);
-      }
+  -- a line more that is marked
+  pub tells-hit : (v : ℕ) → v ≡ length marks → count < mostLines → Tells (set lines count v) (count + 1) (marks ++ (true ∷ []))
+  tells-hit v e h =
+      let n = places-next true in
+      told (set lines count v) (count + 1) (marks ++ (true ∷ []))
+      (ap₂ (λ (l : List ℕ) (y : ℕ). set l count y) (ap (λ (e : Edit). e .lines) t) e ∙ padded-put mostLines 0 L count (length marks) counts h ∙ ap (padded mostLines 0) (sym n))
+      (sym (ap length n ∙ length-append L (length marks ∷ []) ∙ ap (λ (x : ℕ). x + 1) (sym counts)))
 
-  pub list-miss : getD marks i false ≡ false → Listed marks lines count (i + 1)
-  list-miss e =
-      let n = places-next false e ∙ append-nil (placesFrom 0 (take i marks)) in
-      record {
-        upto = omega arith;
-        small = omega (arith, t .small);
-        counts = t .counts ∙ ap length (sym n);
-        is = t .is ∙ ap (padded 256 0) (sym n);
-      }
-
-pub list-done : (marks : List Bool) → length marks ≡ 256 → (lines : List ℕ) (count i : ℕ) → 256 ≤ i → Listed marks lines count i
-    → _≡_ {A = Edit} (record { answer = Done; lines = lines; count = count }) (reworking marks)
-list-done marks size lines count i h t =
-    let e : take i marks ≡ marks = take-all i marks (omega arith) in
-    let p = t .is ∙ ap (λ (l : List Bool). padded 256 0 (placesFrom 0 l)) e in
-    let q = t .counts ∙ ap (λ (l : List Bool). length (placesFrom 0 l)) e ∙ sym (size-places 0 marks) in
-    λ i. record { answer = Done; lines = p i; count = q i }
+  -- a line more that is not
+  pub tells-miss : Tells lines count (marks ++ (false ∷ []))
+  tells-miss =
+      let n = sym (places-next false ∙ append-nil L) in
+      told lines count (marks ++ (false ∷ [])) (ap (λ (e : Edit). e .lines) t ∙ ap (padded mostLines 0) n) (counts ∙ ap length n)

@@ -11,15 +11,17 @@ use lib.ListN.{length, getD, replicate, length-replicate, List·getD-eq-default}
 use Rattle.circuit.specs.declared.Answer.{Answer}
 use Rattle.circuit.specs.declared.Answer.the-variants.{Done}
 use Rattle.circuit.specs.Lines.{Listing, gateAt, reads, lines, anyOf, reachStep, reached, padded}
+use Rattle.circuit.specs.Sizes.{mostLines}
 use Rattle.circuit.proofs.Keep.{Below}
 use Rattle.circuit.proofs.LineLaws.{made, lines-length, lines-one, lines-more, lines-at, place}
 use Rattle.circuit.proofs.Operands.{reads-below}
 use Rattle.circuit.proofs.Padding.{pad-read}
-use Rattle.bench.specs.Target.{isMatrix}
+use Rattle.circuit.proofs.RuleLaws.{circuit-fits}
+use Rattle.targets.specs.Target.{isMatrix}
 use Rattle.bench.specs.State.{State, Sound, present}
 use Rattle.bench.specs.Parts.{AllBelow}
 use Rattle.bench.specs.Calls.{placesFrom, readersOf, reworking, editBy, gateEdit, gateEditAnswer}
-use Rattle.bench.proofs.Standing.{circuit-fits, all-below}
+use Rattle.bench.proofs.Standing.{all-below}
 use Rattle.bench.proofs.Places.{listed-marked, marked-listed, size-places, places-ascend}
 use Rattle.bench.proofs.Replacing.{edit-fits}
 
@@ -150,7 +152,7 @@ reworking-lists c k below there =
     let marks = readersOf c k in
     let l = placesFrom 0 marks in
     let n = size-places 0 marks in
-    let at : (j : ℕ) → getD (padded 256 0 l) j 0 ≡ getD l j 0 = λ j. pad-read l (256 - length l) j 0 in
+    let at : (j : ℕ) → getD (padded mostLines 0 l) j 0 ≡ getD l j 0 = λ j. pad-read l (mostLines - length l) j 0 in
     record {
       each = λ j h. listed-affected c k _ (Memᴰ·cast (at j) (mem-at l j (omega arith)));
       every = λ i a. let r = at-mem i l (affected-listed c k below there i a) in (r .0, (omega (arith, r .1 .0), at (r .0) ∙ r .1 .1));

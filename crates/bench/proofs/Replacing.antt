@@ -2,7 +2,8 @@
 use mathlib.Core.Path.{_≡_, refl, ap, ap₂, _∙_, sym, subst}
 use mathlib.Core.Bool.{Bool, true, false, _||_}
 use mathlib.Core.List.{List, [], _∷_, _++_, map}
-use Prim.Native.Nat.{ℕ, zero, suc, _≤_, _<_, _-_, _+_}
+use Prim.Native.Nat.{ℕ, zero, suc, _≤_, _<_, _+_, _%_}
+use native.Mathlib.Nat.{mod-eq-of-lt}
 use native.Mathlib.Omega.{arith}
 use borrow.Author.Tests.{ltb-true, eqb-false}
 use lib.Dec.{ltb, eqb}
@@ -13,20 +14,24 @@ use Rattle.circuit.specs.declared.Answer.the-variants.{Done, Refused}
 use Rattle.circuit.specs.declared.Refusal.{Refusal}
 use Rattle.circuit.specs.declared.Refusal.the-variants.{NothingOpen, NotThere}
 use Rattle.circuit.specs.Gate.{noWords}
-use Rattle.circuit.specs.Lines.{Gate, noGate, gateAt, reads, lines, anyOf, depthStep, andStep, wordsStep, reachStep, inputWords, reached, padded}
-use Rattle.circuit.specs.Reading.{unless, shaped, gateAnswer}
-use Rattle.circuit.proofs.Accept.{Shaped, past}
+use Rattle.circuit.specs.Lines.{Gate, noGate, gateAt, reads, lines, anyOf, depthStep, andStep, wordsStep, reachStep, inputWords, reached, padded, gate, withGate}
+use Rattle.circuit.specs.Rules.{unless, shaped, gateAnswer}
+use Rattle.circuit.specs.Sizes.{mostInputs, mostGates, held16}
+use Rattle.circuit.specs.Structs.{column, held}
+use Rattle.circuit.proofs.Shapes.{Shaped, past}
 use Rattle.circuit.proofs.Padding.{padded-set}
+use Rattle.circuit.proofs.RuleLaws.{GateFits, gate-fits, GatesDone, OutsDone, CircuitFits, circuit-fits, fits-circuit}
+use Rattle.targets.specs.Target.{isMatrix}
 use Rattle.bench.specs.declared.Bench.{Bench}
-use Rattle.bench.specs.Target.{isMatrix}
+use Rattle.bench.specs.declared.Edit.{Edit}
+use Rattle.bench.specs.declared.Edited.{Edited}
 use Rattle.bench.specs.State.{State, Sound, SoundPresent, Present, nothing, present}
-use Rattle.bench.specs.Held.{emptyBench, fullBench, benchOf, Stands}
-use Rattle.bench.specs.Parts.{gateOn, holding, entries, examinedAs, examined, AllBelow, Agree, Reexamined, standing, gateLook}
-use Rattle.bench.specs.Calls.{gateEditAnswer, withGate, gateEdited, after, afterGate, readersOf, reworking, noRework, editBy, gateEdit}
-use Rattle.bench.proofs.Standing.{GateFits, gate-fits, GatesDone, OutsDone, CircuitFits, circuit-fits, fits-circuit, all-below, gate-of, full-examined, examined-same, full-standing}
+use Rattle.bench.specs.Held.{emptyBench, fullBench, benchOf, Stands, holding, recircuited}
+use Rattle.bench.specs.Parts.{gateOn, entries, examinedAs, examined, AllBelow, Agree, Reexamined, standing, gateLook, replaced, Reworked}
+use Rattle.bench.specs.Calls.{gateEditAnswer, gateEdited, after, afterGate, readersOf, reworking, noRework, editBy, gateEdit, GatePromise}
+use Rattle.bench.proofs.Standing.{all-below, gate-of, full-examined, examined-same, full-standing}
 use Rattle.bench.proofs.Setting.{map-set, set-each}
 use Rattle.bench.proofs.Stood.{standing-shaped}
-use Rattle.bench.proofs.Places.{reworking-padded}
 
 -- ---- what is looked at
 
@@ -34,7 +39,7 @@ use Rattle.bench.proofs.Places.{reworking-padded}
 pub record LookFits (only : Bool) (n m g k kind a b : ℕ) : Type 0 where
   pub shape : Shaped n m g
   pub there : k < g
-  pub gate : GateFits only (n + k) kind a b
+  pub gate : GateFits only (n + k) (gate kind a b)
 
 pub look-fits : (opened only : Bool) (n m g k kind a b : ℕ) (r : Answer) → r ≡ gateLook opened only n m g k kind a b → r ≡ Done
     → LookFits only n m g k kind a b
@@ -42,7 +47,7 @@ unfolding gateLook
 look-fits opened only n m g k kind a b r e h =
     let p = past (standing opened n m g) NothingOpen (sym e ∙ h) in
     let q = past (ltb k g) NotThere (p .1) in
-    record { shape = standing-shaped opened n m g (p .0); there = ltb-true k g (q .0); gate = gate-fits only (n + k) kind a b (q .1) }
+    record { shape = standing-shaped opened n m g (p .0); there = ltb-true k g (q .0); gate = gate-fits only (n + k) (gate kind a b) (q .1) }
 
 -- on a right bench it is what the edit answers
 look-is : (z : Bench) (p : Present) → Stands z p → (k kind a b : ℕ)
@@ -54,13 +59,8 @@ look-is z (present s) st k kind a b =
     ap (λ (z : Bench). gateLook (z .«is_open») (z .«is_matrix») (z .n) (z .m) (z .g) k kind a b) (st .is)
     ∙ ap (λ (t : Bool). unless t NothingOpen (gateEditAnswer (present s) k kind a b)) (full-standing s (st .sound))
 
--- so an answer that was given is the edit's
-pub look-answers : (z : Bench) (p : Present) → Stands z p → (k kind a b : ℕ) (r w : Answer)
-    → r ≡ gateLook (z .«is_open») (z .«is_matrix») (z .n) (z .m) (z .g) k kind a b → r ≡ w → gateEditAnswer p k kind a b ≡ w
-look-answers z p st k kind a b r w e h = sym (look-is z p st k kind a b) ∙ sym e ∙ h
-
 -- a refusal leaves what was present, and reworks nothing
-pub refused-edit : (p : Present) (k kind a b : ℕ) (w : Refusal) → gateEditAnswer p k kind a b ≡ Refused w
+refused-edit : (p : Present) (k kind a b : ℕ) (w : Refusal) → gateEditAnswer p k kind a b ≡ Refused w
     → (noRework (Refused w) ≡ gateEdit p k kind a b) × (benchOf p ≡ benchOf (afterGate p k kind a b))
 unfolding gateEditAnswer
 refused-edit nothing k kind a b w e = (ap noRework (sym e), refl)
@@ -74,7 +74,7 @@ refused-edit (present s) k kind a b w e = (
 -- what an accepted edit shows
 pub record EditFits (s : State) (k kind a b : ℕ) : Type 0 where
   pub there : k < length (s .circuit .gates)
-  pub gate : gateAnswer (isMatrix (s .target)) (s .circuit .inputs + k) kind a b ≡ Done
+  pub gate : gateAnswer (isMatrix (s .target)) (s .circuit .inputs + k) (gate kind a b) ≡ Done
 
 pub edit-fits : (s : State) (k kind a b : ℕ) → gateEditAnswer (present s) k kind a b ≡ Done → EditFits s k kind a b
 unfolding gateEditAnswer
@@ -83,17 +83,17 @@ edit-fits s k kind a b h =
     record { there = ltb-true k (length (s .circuit .gates)) (p .0); gate = p .1 }
 
 -- the gates of a circuit with an accepted gate in the place of another are accepted
-gates-kept : (only : Bool) (line : ℕ) (qs : List Gate) (k : ℕ) (q : Gate) → gateAnswer only (line + k) (q .kind) (q .left) (q .right) ≡ Done
+gates-kept : (only : Bool) (line : ℕ) (qs : List Gate) (k : ℕ) (q : Gate) → gateAnswer only (line + k) q ≡ Done
     → GatesDone only line qs → GatesDone only line (set qs k q)
 gates-kept only line qs k q h all =
-    set-each (λ (j : ℕ) (g : Gate). gateAnswer only (line + j) (g .kind) (g .left) (g .right) ≡ Done) qs k q noGate h all
+    set-each (λ (j : ℕ) (g : Gate). gateAnswer only (line + j) g ≡ Done) qs k q noGate h all
 
 -- an accepted edit keeps every rule
 pub sound-kept : (s : State) (k kind a b : ℕ) → Sound s → gateEditAnswer (present s) k kind a b ≡ Done → Sound (gateEdited s k kind a b)
 sound-kept s k kind a b ok h =
     let only = isMatrix (s .target) in
     let c = s .circuit in
-    let q : Gate = record { kind = kind; left = a; right = b } in
+    let q = gate kind a b in
     let f = circuit-fits only c (ok .circuit) in
     let e = edit-fits s k kind a b h in
     let l = sym (length-set (c .gates) k q) in
@@ -105,9 +105,7 @@ sound-kept s k kind a b ok h =
         outs = subst (λ (g : ℕ). OutsDone (c .inputs + g) (c .outs)) l (f .outs);
       });
       target = ok .target;
-      gates = ok .gates;
-      depth = ok .depth;
-      andDepth = ok .andDepth;
+      limits = ok .limits;
     }
 
 -- what is present keeps every rule, accepted or refused
@@ -136,33 +134,10 @@ reached-same k n old new agree (suc j) =
 
 -- ---- the bench after it
 
--- the bench with gate k replaced, and its lines not yet examined
-abbrev pub replaced : Bench → ℕ → ℕ → ℕ → ℕ → Bench
-replaced z k kind a b =
-    record {
-      «is_open» = z .«is_open»;
-      «is_matrix» = z .«is_matrix»;
-      n = z .n;
-      m = z .m;
-      g = z .g;
-      «max_gates» = z .«max_gates»;
-      «max_depth» = z .«max_depth»;
-      «max_and_depth» = z .«max_and_depth»;
-      kinds = set (z .kinds) k kind;
-      left = set (z .left) k a;
-      right = set (z .right) k b;
-      outputs = z .outputs;
-      target = z .target;
-      wanted = z .wanted;
-      depths = z .depths;
-      «and_depths» = z .«and_depths»;
-      values = z .values;
-    }
-
 module _ (s : State) (k kind a b : ℕ) where
   -- the new gate, and the state with it
   abbrev Q : Gate
-  Q = record { kind = kind; left = a; right = b }
+  Q = gate kind a b
 
   abbrev next : State
   next = gateEdited s k kind a b
@@ -173,10 +148,10 @@ module _ (s : State) (k kind a b : ℕ) where
 
   module _ (there : k < length (s .circuit .gates)) where
     -- a column of the gates with one changed
-    column-set : (f : Gate → ℕ) → set (padded 248 0 (map f (s .circuit .gates))) k (f Q) ≡ padded 248 0 (map f (set (s .circuit .gates) k Q))
+    column-set : (f : Gate → ℕ) → set (column f (s .circuit .gates)) k (f Q) ≡ column f (set (s .circuit .gates) k Q)
     column-set f =
-        padded-set 248 0 (map f (s .circuit .gates)) k (f Q) (omega (arith, length-map (s .circuit .gates) f))
-        ∙ ap (padded 248 0) (sym (map-set f (s .circuit .gates) k Q))
+        padded-set mostGates 0 (map f (s .circuit .gates)) k (f Q) (omega (arith, length-map (s .circuit .gates) f))
+        ∙ ap (padded mostGates 0) (sym (map-set f (s .circuit .gates) k Q))
 
     pub replaced-is : replaced (fullBench s) k kind a b ≡ stale
     unfolding fullBench stale
@@ -185,37 +160,11 @@ module _ (s : State) (k kind a b : ℕ) where
         let q = column-set (λ (q : Gate). q .left) in
         let r = column-set (λ (q : Gate). q .right) in
         let l = sym (length-set (s .circuit .gates) k Q) in
-        λ i. record {
-          «is_open» = fullBench s .«is_open»;
-          «is_matrix» = fullBench s .«is_matrix»;
-          n = fullBench s .n;
-          m = fullBench s .m;
-          g = l i;
-          «max_gates» = fullBench s .«max_gates»;
-          «max_depth» = fullBench s .«max_depth»;
-          «max_and_depth» = fullBench s .«max_and_depth»;
-          kinds = p i;
-          left = q i;
-          right = r i;
-          outputs = fullBench s .outputs;
-          target = fullBench s .target;
-          wanted = fullBench s .wanted;
-          depths = fullBench s .depths;
-          «and_depths» = fullBench s .«and_depths»;
-          values = fullBench s .values;
-        }
-
-  -- its gates are the new state's
-  stale-gate : (j : ℕ) → gateOn stale j ≡ gateAt (next .circuit) j
-  unfolding stale
-  stale-gate j = gate-of next j
-
-  -- all but gate k are as they were
-  stale-agrees : Agree k (gateAt (s .circuit)) (gateOn stale)
-  stale-agrees j ne = stale-gate j ∙ getD-set-other (s .circuit .gates) k j Q noGate ne
+        let c = held (s .circuit) in
+        λ i. recircuited (fullBench s) (record { n = c .n; m = c .m; g = l i; kinds = p i; left = q i; right = r i; outputs = c .outputs })
 
   -- what it holds is what examining the old gates gives
-  stale-was : s .circuit .inputs ≤ 8 → stale ≡ examinedAs stale (gateAt (s .circuit))
+  stale-was : s .circuit .inputs ≤ mostInputs → stale ≡ examinedAs stale (gateAt (s .circuit))
   unfolding stale examinedAs fullBench
   stale-was n8 =
       let c = s .circuit in
@@ -227,14 +176,23 @@ module _ (s : State) (k kind a b : ℕ) where
       let r = ap (λ (z : Bench). z .values) e ∙ ap (entries wordsStep noWords (take n inputWords) (gateAt c) n) l in
       λ i. holding (fullBench next) (p i) (q i) (r i)
 
-  -- examined, it is the bench of the new state
-  stale-examined : s .circuit .inputs ≤ 8 → examined stale ≡ fullBench next
-  unfolding stale examinedAs
-  stale-examined n8 = examined-same (fullBench next) (gateAt (next .circuit)) (gateOn (fullBench next)) (λ i h. gate-of next i) ∙ sym (full-examined next n8)
-
   module _ (ok : Sound s) (h : gateEditAnswer (present s) k kind a b ≡ Done) where
     fits : CircuitFits (isMatrix (s .target)) (next .circuit)
     fits = circuit-fits (isMatrix (s .target)) (next .circuit) (sound-kept s k kind a b ok h .circuit)
+
+    -- its gates are the new state's
+    stale-gate : (j : ℕ) → gateOn stale j ≡ gateAt (next .circuit) j
+    unfolding stale
+    stale-gate j = gate-of next fits j
+
+    -- all but gate k are as they were
+    stale-agrees : Agree k (gateAt (s .circuit)) (gateOn stale)
+    stale-agrees j ne = stale-gate j ∙ getD-set-other (s .circuit .gates) k j Q noGate ne
+
+    -- examined, it is the bench of the new state
+    stale-examined : s .circuit .inputs ≤ mostInputs → examined stale ≡ fullBench next
+    unfolding stale examinedAs
+    stale-examined n8 = examined-same (fullBench next) (gateAt (next .circuit)) (gateOn (fullBench next)) (λ i h. gate-of next fits i) ∙ sym (full-examined next n8)
 
     stale-below : AllBelow (stale .n) (stale .g) (gateOn stale)
     unfolding stale fullBench
@@ -243,30 +201,44 @@ module _ (s : State) (k kind a b : ℕ) where
         (all-below (isMatrix (s .target)) (next .circuit) fits j l)
 
     -- what the re-examination leaves
-    pub fresh-bench : (r : Bench) (marks : List Bool) → Reexamined stale k r marks → r ≡ fullBench next
-    fresh-bench r marks e =
-        let n8 = fits .shape .n8 in
+    pub fresh-bench : (r : Bench) (x : Edit) → Reexamined stale k r x → r ≡ fullBench next
+    fresh-bench r x e =
+        let n8 = fits .shape .n-most in
         e .fresh stale-below (gateAt (s .circuit)) stale-agrees (stale-was n8) ∙ stale-examined n8
 
-    -- what it marks
-    pub fresh-lines : (r : Bench) (marks : List Bool) → Reexamined stale k r marks → reworking marks ≡ reworking (readersOf (s .circuit) k)
+    -- what it lists
+    pub fresh-lines : (r : Bench) (x : Edit) → Reexamined stale k r x → x ≡ reworking (readersOf (s .circuit) k)
     unfolding stale fullBench
-    fresh-lines r marks e =
+    fresh-lines r x e =
         let c = s .circuit in
-        ap reworking (e .marked) ∙ reworking-padded (reached k (stale .n) (gateOn stale) (stale .g)) (256 - (stale .n + stale .g))
+        e .listed
         ∙ ap reworking
         (reached-same k (c .inputs) (gateAt c) (gateOn stale) stale-agrees (stale .g) ∙ ap (reached k (c .inputs) (gateAt c)) (length-set (c .gates) k Q))
 
 -- an accepted edit, on a bench that stands for p
-pub done-edit : (z : Bench) (p : Present) → Stands z p → (k kind a b : ℕ) → gateEditAnswer p k kind a b ≡ Done
-    → (r : Bench) (marks : List Bool) → Reexamined (replaced z k kind a b) k r marks
-    → (reworking marks ≡ gateEdit p k kind a b) × (r ≡ benchOf (afterGate p k kind a b))
+done-edit : (z : Bench) (p : Present) → Stands z p → (k kind a b : ℕ) → gateEditAnswer p k kind a b ≡ Done
+    → (r : Bench) (x : Edit) → Reexamined (replaced z k kind a b) k r x → (x ≡ gateEdit p k kind a b) × (r ≡ benchOf (afterGate p k kind a b))
 unfolding gateEditAnswer
-done-edit z nothing st k kind a b h r marks e = let x : _≡_ {A = ℕ} 0 1 = cc in absurd (omega arith)
-done-edit z (present s) st k kind a b h r marks e =
+done-edit z nothing st k kind a b h r x e = let y : _≡_ {A = ℕ} 0 1 = cc in absurd (omega arith)
+done-edit z (present s) st k kind a b h r x e =
     let there = edit-fits s k kind a b h .there in
     let was = ap (λ (z : Bench). replaced z k kind a b) (st .is) ∙ replaced-is s k kind a b there in
-    let f = subst (λ (z : Bench). Reexamined z k r marks) was e in (
-      fresh-lines s k kind a b (st .sound) h r marks f ∙ ap (λ (x : Answer). editBy x (readersOf (s .circuit) k)) (sym h),
-      fresh-bench s k kind a b (st .sound) h r marks f ∙ ap (λ (x : Answer). benchOf (after x (gateEdited s k kind a b) (present s))) (sym h),
+    let f = subst (λ (z : Bench). Reexamined z k r x) was e in (
+      fresh-lines s k kind a b (st .sound) h r x f ∙ ap (λ (x : Answer). editBy x (readersOf (s .circuit) k)) (sym h),
+      fresh-bench s k kind a b (st .sound) h r x f ∙ ap (λ (x : Answer). benchOf (after x (gateEdited s k kind a b) (present s))) (sym h),
     )
+
+-- so what is given, by what was looked at, is what the edit promises; the code stores the low byte and the low 16 bits
+pub gate-given : (z : Bench) (k kind a b kind′ a′ b′ : ℕ) (look : Answer) (r : Edited)
+    → look ≡ gateLook (z .«is_open») (z .«is_matrix») (z .n) (z .m) (z .g) k kind a b → kind′ ≡ kind % 256 → a′ ≡ a % held16 → b′ ≡ b % held16
+    → Reworked look z k kind′ a′ b′ r → GatePromise z k kind a b (r .edit) (r .bench)
+gate-given z k kind a b kind′ a′ b′ (Refused w) r is ek ea eb h p st =
+    let e = refused-edit p k kind a b w (sym (look-is z p st k kind a b) ∙ sym is) in
+    (ap (λ (x : Edited). x .edit) h ∙ e .0, ap (λ (x : Edited). x .bench) h ∙ st .is ∙ e .1)
+gate-given z k kind a b kind′ a′ b′ Done r is ek ea eb h p st =
+    let o = look-fits _ _ _ _ _ k kind a b Done is refl in
+    let q = ek ∙ mod-eq-of-lt (omega (arith, o .shape, o .gate)) in
+    let f = ea ∙ mod-eq-of-lt (omega (arith, o .shape, o .gate)) in
+    let g = eb ∙ mod-eq-of-lt (omega (arith, o .shape, o .gate)) in
+    done-edit z p st k kind a b (sym (look-is z p st k kind a b) ∙ sym is) (r .bench) (r .edit)
+    (subst (λ (y : Bench). Reexamined y k (r .bench) (r .edit)) (λ i. replaced z k (q i) (f i) (g i)) h)

@@ -11,23 +11,24 @@ use Rattle.circuit.specs.declared.Answer.{Answer}
 use Rattle.circuit.specs.declared.Answer.the-variants.{Done, Refused}
 use Rattle.circuit.specs.declared.Refusal.the-variants.{Target as BadTarget, NotThere}
 use Rattle.circuit.specs.Gate.{noWords}
-use Rattle.circuit.specs.Lines.{Gate, Listing, noGate, gateAt, lines, depthStep, andStep, wordsStep, inputWords, reached, padded}
-use Rattle.circuit.specs.Stored.{stored}
-use Rattle.circuit.specs.Reading.{unless, andThen}
-use Rattle.circuit.specs.Writing.{roomAfter}
+use Rattle.circuit.specs.Lines.{Gate, Listing, noGate, gateAt, lines, depthStep, andStep, wordsStep, inputWords, reached, padded, gate, withGate, withGates}
+use Rattle.circuit.specs.Rules.{unless, andThen}
+use Rattle.circuit.specs.Sizes.{mostLines}
 use Rattle.circuit.proofs.LineLaws.{same-lines}
-use Rattle.circuit.proofs.Round.{listing-stored, answer-stored}
 use Rattle.circuit.proofs.Padding.{pad-read}
+use Rattle.circuit.proofs.RuleLaws.{circuit-fits}
+use Rattle.stored.specs.Stored.{stored}
+use Rattle.stored.specs.Writing.{roomAfter}
+use Rattle.stored.proofs.Round.{listing-stored, answer-stored}
+use Rattle.targets.specs.Target.{Target, isMatrix, targetFits}
 use Rattle.bench.specs.declared.Bench.{Bench}
 use Rattle.bench.specs.declared.Edit.{Edit}
 use Rattle.bench.specs.declared.Reported.{Reported}
-use Rattle.bench.specs.Target.{Target, isMatrix, targetFits}
-use Rattle.bench.specs.State.{Limits, State, Present, nothing, present, Sound, SoundPresent}
+use Rattle.bench.specs.State.{Limits, State, withCircuit, Present, nothing, present, Sound, SoundPresent}
 use Rattle.bench.specs.Held.{emptyBench, fullBench, benchOf, Stands}
-use Rattle.bench.specs.Calls.{after, openAnswer, openState, gateEditAnswer, withGate, gateEdited, afterGate, readersOf, editBy, gateEdit, reported, outputEditAnswer, entryEditAnswer, limitsAnswer, noRework, storeAnswer, storedOf, View, asTheyAre, benchAfterOpen, GatePromise, ReportPromise}
+use Rattle.bench.specs.Calls.{after, openAnswer, openState, gateEditAnswer, gateEdited, afterGate, readersOf, editBy, gateEdit, reported, outputEditAnswer, entryEditAnswer, limitsAnswer, noRework, storeAnswer, storedOf, View, asTheyAre, benchAfterOpen, GatePromise, ReportPromise}
 use Rattle.bench.specs.Run.{Call, afterCall, presentFrom, presentAfter, StepGiven, RunsBy, Runs}
 use Rattle.bench.specs.Run.Call.{opening, replacing, pointing, changing, limiting, reporting, storing}
-use Rattle.bench.proofs.Standing.{circuit-fits}
 use Rattle.bench.proofs.Examining.{inputs-length}
 use Rattle.bench.proofs.Unique.{one-present}
 use Rattle.bench.proofs.OpenLaws.{open-stands}
@@ -148,14 +149,14 @@ unfolding openAnswer
 opens s ok =
     let c = s .circuit in
     let only = isMatrix (s .target) in
-    let r = answer-stored only c ∙ ok .circuit in
-    let f = ap (λ (x : Listing). targetFits (x .inputs) (length (x .outs)) (s .target)) (listing-stored c) ∙ ok .target in
+    let r = answer-stored only c (ok .circuit) in
+    let f = ap (λ (x : Listing). targetFits (x .inputs) (length (x .outs)) (s .target)) (listing-stored only c (ok .circuit)) ∙ ok .target in
     λ i. andThen (r i) (unless (f i) BadTarget Done)
 
 pub opens-as : (s : State) → Sound s → presentAfter (opening (stored (s .circuit)) (s .target) (s .limits) ∷ []) ≡ present s
 opens-as s ok =
     let e : openState (stored (s .circuit)) (s .target) (s .limits) ≡ s =
-    ap (λ (c : Listing). record { circuit = c; target = s .target; limits = s .limits }) (listing-stored (s .circuit)) in
+    ap (withCircuit s) (listing-stored (isMatrix (s .target)) (s .circuit) (ok .circuit)) in
     λ i. after (opens s ok i) (e i) nothing
 
 -- after any calls the bench is the one on which what is present was opened just now: no call leaves a trace but in what is present
@@ -180,17 +181,17 @@ module _ (c : Listing) (k : ℕ) (q : Gate) where
 
   held-same : {A : Type 0} (step : ℕ → Gate → List A → A) (d : A) (ins : List A) → length ins ≡ c .inputs
       → (i : ℕ) → getD (readersOf c k) i false ≡ false
-      → getD (padded 256 d (lines step d ins (gateAt (withGate c k q)) (length (withGate c k q .gates)))) i d
-      ≡ getD (padded 256 d (lines step d ins (gateAt c) (length (c .gates)))) i d
+      → getD (padded mostLines d (lines step d ins (gateAt (withGate c k q)) (length (withGate c k q .gates)))) i d
+      ≡ getD (padded mostLines d (lines step d ins (gateAt c) (length (c .gates)))) i d
   held-same step d ins l i h =
       let g = length (c .gates) in
       let new = lines step d ins (gateAt (withGate c k q)) in
       let old = lines step d ins (gateAt c) g in
       let u = subst (λ (n : ℕ). getD (reached k n (gateAt c) g) i false ≡ false) (sym l) h in
-      pad-read (new (length (withGate c k q .gates))) (256 - length (new (length (withGate c k q .gates)))) i d
+      pad-read (new (length (withGate c k q .gates))) (mostLines - length (new (length (withGate c k q .gates)))) i d
       ∙ ap (λ (x : ℕ). getD (new x) i d) (length-set (c .gates) k q)
       ∙ sym (same-lines step d ins (gateAt (withGate c k q)) (gateAt c) k agree g i u)
-      ∙ sym (pad-read old (256 - length old) i d)
+      ∙ sym (pad-read old (mostLines - length old) i d)
 
 module _ (s : State) (ok : Sound s) (k : ℕ) where
   line-kept : (kind x y i : ℕ) → getD (readersOf (s .circuit) k) i false ≡ false → SameLine (fullBench s) (fullBench (gateEdited s k kind x y)) i
@@ -198,12 +199,12 @@ module _ (s : State) (ok : Sound s) (k : ℕ) where
   line-kept kind x y i h =
       let c = s .circuit in
       let n = c .inputs in
-      let q : Gate = record { kind = kind; left = x; right = y } in
-      let n8 = circuit-fits (isMatrix (s .target)) c (ok .circuit) .shape .n8 in
+      let q = gate kind x y in
+      let n-most = circuit-fits (isMatrix (s .target)) c (ok .circuit) .shape .n-most in
       record {
         depth = held-same c k q depthStep 0 (replicate n 0) (length-replicate n 0) i h;
         andDepth = held-same c k q andStep 0 (replicate n 0) (length-replicate n 0) i h;
-        values = held-same c k q wordsStep noWords (take n inputWords) (inputs-length n n8) i h;
+        values = held-same c k q wordsStep noWords (take n inputWords) (inputs-length n n-most) i h;
       }
 
   -- whatever the edit answers, what is held for a line that is not the gate's and does not read it, directly or through others, stays
@@ -235,7 +236,7 @@ module _ (s : State) (ok : Sound s) (k : ℕ) where
     pub itself-same : afterGate (present s) k (own .kind) (own .left) (own .right) ≡ present s
     itself-same =
         let e : gateEdited s k (own .kind) (own .left) (own .right) ≡ s =
-        ap (λ (qs : List Gate). record { circuit = record { inputs = s .circuit .inputs; gates = qs; outs = s .circuit .outs }; target = s .target; limits = s .limits })
+        ap (λ (qs : List Gate). withCircuit s (withGates (s .circuit) qs))
         (set-getD (s .circuit .gates) k noGate) in
         λ i. after (itself-accepted i) (e i) (present s)
 

@@ -7,22 +7,23 @@ use lib.ListN.{length, length-set}
 use Rattle.circuit.specs.declared.Answer.{Answer}
 use Rattle.circuit.specs.declared.Answer.the-variants.{Done, Refused}
 use Rattle.circuit.specs.declared.Refusal.the-variants.{Target as BadTarget}
-use Rattle.circuit.specs.Stored.{listingIn}
-use Rattle.circuit.specs.Reading.{unless, shaped, outAnswer, readAnswer, listingAnswer}
-use Rattle.circuit.proofs.Accept.{Shaped, past, then-done}
-use Rattle.bench.specs.Target.{Target, isMatrix, targetFits}
-use Rattle.bench.specs.State.{Limits, State, Present, nothing, present, Sound, SoundPresent}
+use Rattle.circuit.specs.Rules.{unless, shaped, outAnswer, listingAnswer}
+use Rattle.circuit.proofs.Shapes.{Shaped, past, then-done}
+use Rattle.circuit.proofs.RuleLaws.{circuit-fits, fits-circuit}
+use Rattle.stored.specs.Stored.{listingIn}
+use Rattle.stored.specs.Reading.{readAnswer}
+use Rattle.stored.proofs.Round.{listing-accepted}
+use Rattle.targets.specs.Target.{Target, isMatrix, targetFits}
+use Rattle.bench.specs.State.{Limits, State, withLimits, Present, nothing, present, Sound, SoundPresent, LimitsFit}
 use Rattle.bench.specs.Calls.{after, openAnswer, openState, outputEditAnswer, outputEdited, entryEditAnswer, entryEdited}
-use Rattle.bench.specs.Run.{Call, afterCall, ByteLimits}
+use Rattle.bench.specs.Run.{Call, afterCall}
 use Rattle.bench.specs.Run.Call.{opening, replacing, pointing, changing, limiting, reporting, storing}
-use Rattle.bench.proofs.Standing.{circuit-fits, fits-circuit}
 use Rattle.bench.proofs.Setting.{set-each}
 use Rattle.bench.proofs.EditLaws.{output-there}
 use Rattle.bench.proofs.EntryLaws.{entry-accepted, same-kind}
-use Rattle.bench.proofs.OpenLaws.{listing-accepted}
 use Rattle.bench.proofs.Replacing.{sound-after as gate-sound}
 
-pub sound-open : (bytes : List ℕ) (t : Target) (l : Limits) → ByteLimits l → openAnswer bytes t ≡ Done → Sound (openState bytes t l)
+pub sound-open : (bytes : List ℕ) (t : Target) (l : Limits) → LimitsFit l → openAnswer bytes t ≡ Done → Sound (openState bytes t l)
 unfolding openAnswer
 sound-open bytes t l small h =
     let c = listingIn bytes in
@@ -30,9 +31,7 @@ sound-open bytes t l small h =
     record {
       circuit = listing-accepted (isMatrix t) bytes (p .0);
       target = past (targetFits (c .inputs) (length (c .outs)) t) BadTarget (p .1) .0;
-      gates = small .gates;
-      depth = small .depth;
-      andDepth = small .andDepth;
+      limits = small;
     }
 
 module _ (s : State) (ok : Sound s) where
@@ -51,9 +50,7 @@ module _ (s : State) (ok : Sound s) where
           outs = set-each (λ (i o : ℕ). outAnswer lines o ≡ Done) (c .outs) j line 0 (output-there j line s h .1) (f .outs);
         });
         target = subst (λ (m : ℕ). targetFits (c .inputs) m (s .target) ≡ true) l (ok .target);
-        gates = ok .gates;
-        depth = ok .depth;
-        andDepth = ok .andDepth;
+        limits = ok .limits;
       }
 
   pub sound-entry : (i value : ℕ) → entryEditAnswer (present s) i value ≡ Done → Sound (entryEdited s i value)
@@ -61,27 +58,25 @@ module _ (s : State) (ok : Sound s) where
       record {
         circuit = subst (λ (only : Bool). listingAnswer only (s .circuit) ≡ Done) (same-kind i value (s .target)) (ok .circuit);
         target = entry-accepted i value s ok h .fits;
-        gates = ok .gates;
-        depth = ok .depth;
-        andDepth = ok .andDepth;
+        limits = ok .limits;
       }
 
-  pub sound-limits : (l : Limits) → ByteLimits l → Sound (record { circuit = s .circuit; target = s .target; limits = l })
+  pub sound-limits : (l : Limits) → LimitsFit l → Sound (withLimits s l)
   sound-limits l small =
-      record { circuit = ok .circuit; target = ok .target; gates = small .gates; depth = small .depth; andDepth = small .andDepth }
+      record { circuit = ok .circuit; target = ok .target; limits = small }
 
 -- a call that gives a sound state where it is accepted
 pub sound-after : (a : Answer) (s : State) (p : Present) → (a ≡ Done → Sound s) → SoundPresent p → SoundPresent (after a s p)
 sound-after Done s p f ok = f refl
 sound-after (Refused w) s p f ok = ok
 
--- the limits that a call gives are bytes
+-- the limits that a call gives can be held
 abbrev pub Callable : Call → Type 0
-Callable (opening bytes t l) = ByteLimits l
+Callable (opening bytes t l) = LimitsFit l
 Callable (replacing k kind a b) = Unit {0}
 Callable (pointing j line) = Unit {0}
 Callable (changing i value) = Unit {0}
-Callable (limiting l) = ByteLimits l
+Callable (limiting l) = LimitsFit l
 Callable reporting = Unit {0}
 Callable (storing room) = Unit {0}
 

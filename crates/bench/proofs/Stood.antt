@@ -2,7 +2,7 @@
 use mathlib.Core.Path.{_≡_, refl, ap, _∙_, sym}
 use mathlib.Core.Bool.{Bool, true, false, true≢false}
 use Prim.Native.Nat.{ℕ}
-use Rattle.circuit.proofs.Accept.{Shaped, shape-is, both}
+use Rattle.circuit.proofs.Shapes.{Shaped, shape-is, both}
 use Rattle.bench.specs.declared.Bench.{Bench}
 use Rattle.bench.specs.State.{State, Sound, Present, nothing, present}
 use Rattle.bench.specs.Held.{emptyBench, fullBench, Stands}

@@ -7,15 +7,16 @@ use Prim.Native.Nat.{ℕ, _^_}
 use lib.Dec.{leb, eqb}
 use lib.ListN.{length, take}
 use borrow.Author.Tests.{eqb-true}
-use Rattle.circuit.specs.Stored.{listed}
+use Rattle.circuit.specs.Structs.{listed}
 use Rattle.circuit.specs.Lines.{padded}
-use Rattle.circuit.proofs.Accept.{both}
-use Rattle.circuit.proofs.Back.{listed-held}
+use Rattle.circuit.specs.Sizes.{mostValues}
+use Rattle.circuit.proofs.Shapes.{both}
+use Rattle.circuit.proofs.Listed.{listed-held}
 use Rattle.circuit.proofs.Padding.{padded-take}
+use Rattle.targets.specs.Target.{Target, matrix, table, isMatrix, targetBytes, targetFits, targetOf}
 use Rattle.bench.specs.declared.Bench.{Bench}
-use Rattle.bench.specs.Target.{Target, matrix, table, isMatrix, targetBytes, targetFits, targetOf}
-use Rattle.bench.specs.State.{Limits, State, Present, nothing, present, Sound, limits}
-use Rattle.bench.specs.Held.{emptyBench, fullBench, Stands, circuitOf}
+use Rattle.bench.specs.State.{Limits, State, state, Present, nothing, present, Sound, limits}
+use Rattle.bench.specs.Held.{emptyBench, fullBench, Stands, circuitOf, limitsOf}
 use Rattle.bench.specs.Calls.{View, OpenGiven, GateGiven, OutputGiven, EntryGiven, LimitsGiven, ReportGiven, StoreGiven}
 use Rattle.bench.proofs.StoreLaws.{circuit-of-full}
 
@@ -55,26 +56,23 @@ module _ (v : View) where
 -- what a bench that holds a state holds it as
 abbrev onBench : Bench → State
 onBench b =
-    record {
-      circuit = listed (circuitOf b);
-      target = targetOf (b .«is_matrix») (take (cond (b .«is_matrix») (b .m) (2 ^ b .n)) (b .target));
-      limits = limits (b .«max_gates») (b .«max_depth») (b .«max_and_depth»);
-    }
+    state (listed (circuitOf b)) (targetOf (b .«is_matrix») (take (cond (b .«is_matrix») (b .m) (2 ^ b .n)) (b .target)))
+    (limitsOf b)
 
-target-back : (n m : ℕ) (t : Target) → targetFits n m t ≡ true → targetOf (isMatrix t) (take (cond (isMatrix t) m (2 ^ n)) (padded 256 0 (targetBytes t))) ≡ t
+target-back : (n m : ℕ) (t : Target) → targetFits n m t ≡ true → targetOf (isMatrix t) (take (cond (isMatrix t) m (2 ^ n)) (padded mostValues 0 (targetBytes t))) ≡ t
 unfolding targetFits
 target-back n m (matrix rows) f =
-    ap matrix (padded-take 256 0 rows m (sym (eqb-true (length rows) m (both (eqb (length rows) m) f .0))))
+    ap matrix (padded-take mostValues 0 rows m (sym (eqb-true (length rows) m (both (eqb (length rows) m) f .0))))
 target-back n m (table entries) f =
-    ap table (padded-take 256 0 entries (2 ^ n)
+    ap table (padded-take mostValues 0 entries (2 ^ n)
     (sym (eqb-true (length entries) (2 ^ n) (both (eqb (length entries) (2 ^ n)) (both (leb m 8) f .1) .0))))
 
 back : (s : State) → Sound s → onBench (fullBench s) ≡ s
 unfolding fullBench
 back s ok =
-    let c = ap listed (circuit-of-full s) ∙ listed-held (s .circuit) in
+    let c = ap listed (circuit-of-full s) ∙ listed-held (isMatrix (s .target)) (s .circuit) (ok .circuit) in
     let t = target-back (s .circuit .inputs) (length (s .circuit .outs)) (s .target) (ok .target) in
-    λ i. record { circuit = c i; target = t i; limits = s .limits }
+    λ i. state (c i) (t i) (s .limits)
 
 shut-apart : (s : State) → emptyBench ≡ fullBench s → ⊥
 unfolding emptyBench fullBench

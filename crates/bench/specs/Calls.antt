@@ -8,18 +8,20 @@ use lib.ListN.{length, set, replicate}
 use Rattle.circuit.specs.declared.Refusal.the-variants.{Target as BadTarget, NotThere, NothingOpen}
 use Rattle.circuit.specs.declared.Answer.{Answer}
 use Rattle.circuit.specs.declared.Answer.the-variants.{Done, Refused}
-use Rattle.circuit.specs.declared.Writing.{Writing}
-use Rattle.circuit.specs.declared.Writing.the-variants.{NotWritten}
-use Rattle.circuit.specs.Lines.{Gate, Listing, gateAt, reached, padded}
-use Rattle.circuit.specs.Stored.{stored, listingIn}
-use Rattle.circuit.specs.Reading.{unless, andThen, gateAnswer, outAnswer, readAnswer}
-use Rattle.circuit.specs.Writing.{intoRoom, roomAfter}
+use Rattle.circuit.specs.Lines.{Listing, gateAt, reached, padded, gate, withGate, withOuts}
+use Rattle.circuit.specs.Rules.{unless, andThen, gateAnswer, outAnswer}
+use Rattle.circuit.specs.Sizes.{mostLines}
+use Rattle.stored.specs.declared.Writing.{Writing}
+use Rattle.stored.specs.declared.Writing.the-variants.{NotWritten}
+use Rattle.stored.specs.Stored.{stored, listingIn}
+use Rattle.stored.specs.Reading.{readAnswer}
+use Rattle.stored.specs.Writing.{intoRoom, roomAfter}
+use Rattle.targets.specs.Target.{Target, matrix, table, isMatrix, rowFits, entryFits, targetFits}
 use Rattle.bench.specs.declared.Bench.{Bench}
 use Rattle.bench.specs.declared.Edit.{Edit}
 use Rattle.bench.specs.declared.Reported.{Reported}
 use Rattle.bench.specs.declared.Reported.the-variants.{Given, NotGiven}
-use Rattle.bench.specs.Target.{Target, matrix, table, isMatrix, rowFits, entryFits, targetFits}
-use Rattle.bench.specs.State.{Limits, State, Present, nothing, present, reportOf}
+use Rattle.bench.specs.State.{Limits, State, state, withCircuit, withTarget, withLimits, Present, nothing, present, reportOf}
 use Rattle.bench.specs.Held.{benchOf, Stands}
 
 -- what is present after a call that gives the state s: a refused call leaves what was present
@@ -37,7 +39,7 @@ openAnswer bytes t =
 
 -- the state that an open brings
 abbrev pub openState : List ℕ → Target → Limits → State
-openState bytes t l = record { circuit = listingIn bytes; target = t; limits = l }
+openState bytes t l = state (listingIn bytes) t l
 
 -- what is present after an open: a new open replaces everything, a refused one keeps what was there
 abbrev pub afterOpen : Present → List ℕ → Target → Limits → Present
@@ -49,16 +51,11 @@ afterOpen p bytes t l = after (openAnswer bytes t) (openState bytes t l) p
 unfoldable pub gateEditAnswer : Present → ℕ → ℕ → ℕ → ℕ → Answer
 gateEditAnswer nothing k kind a b = Refused NothingOpen
 gateEditAnswer (present s) k kind a b =
-    unless (ltb k (length (s .circuit .gates))) NotThere (gateAnswer (isMatrix (s .target)) (s .circuit .inputs + k) kind a b)
-
--- the circuit with gate k replaced
-abbrev pub withGate : Listing → ℕ → Gate → Listing
-withGate c k q = record { inputs = c .inputs; gates = set (c .gates) k q; outs = c .outs }
+    unless (ltb k (length (s .circuit .gates))) NotThere (gateAnswer (isMatrix (s .target)) (s .circuit .inputs + k) (gate kind a b))
 
 -- the state with gate k replaced
 abbrev pub gateEdited : State → ℕ → ℕ → ℕ → ℕ → State
-gateEdited s k kind a b =
-    record { circuit = withGate (s .circuit) k (record { kind = kind; left = a; right = b }); target = s .target; limits = s .limits }
+gateEdited s k kind a b = withCircuit s (withGate (s .circuit) k (gate kind a b))
 
 -- what is present after replacing a gate
 abbrev pub afterGate : Present → ℕ → ℕ → ℕ → ℕ → Present
@@ -73,12 +70,7 @@ outputEditAnswer (present s) j line =
 
 -- the state with output j pointed at a line
 abbrev pub outputEdited : State → ℕ → ℕ → State
-outputEdited s j line =
-    record {
-      circuit = record { inputs = s .circuit .inputs; gates = s .circuit .gates; outs = set (s .circuit .outs) j line };
-      target = s .target;
-      limits = s .limits;
-    }
+outputEdited s j line = withCircuit s (withOuts (s .circuit) (set (s .circuit .outs) j line))
 
 -- what is present after pointing an output
 abbrev pub afterOutput : Present → ℕ → ℕ → Present
@@ -102,7 +94,7 @@ withEntry (table entries) i value = table (set entries i value)
 
 -- the state with entry i changed
 abbrev pub entryEdited : State → ℕ → ℕ → State
-entryEdited s i value = record { circuit = s .circuit; target = withEntry (s .target) i value; limits = s .limits }
+entryEdited s i value = withTarget s (withEntry (s .target) i value)
 
 -- what is present after changing an entry
 abbrev pub afterEntry : Present → ℕ → ℕ → Present
@@ -117,7 +109,7 @@ limitsAnswer (present s) = Done
 -- what is present after setting the limits
 abbrev pub afterLimits : Present → Limits → Present
 afterLimits nothing l = nothing
-afterLimits (present s) l = present (record { circuit = s .circuit; target = s .target; limits = l })
+afterLimits (present s) l = present (withLimits s l)
 
 -- ---- what an edit answers
 
@@ -137,11 +129,11 @@ readersOf c k = reached k (c .inputs) (gateAt c) (length (c .gates))
 
 -- an edit's answer with a set of reworked lines
 abbrev pub reworking : List Bool → Edit
-reworking marks = record { answer = Done; lines = padded 256 0 (placesFrom 0 marks); count = sizeOf marks }
+reworking marks = record { answer = Done; lines = padded mostLines 0 (placesFrom 0 marks); count = sizeOf marks }
 
 -- an edit's answer with none, as a refusal has
 abbrev pub noRework : Answer → Edit
-noRework a = record { answer = a; lines = replicate 256 0; count = 0 }
+noRework a = record { answer = a; lines = replicate mostLines 0; count = 0 }
 
 -- an edit's answer: the set where it is accepted, none where it is refused
 abbrev pub editBy : Answer → List Bool → Edit

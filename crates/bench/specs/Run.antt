@@ -1,9 +1,9 @@
 -- A sequence of calls: what is present after it by the definition, and what it may make of a bench by the promises of the functions.
 use mathlib.Core.List.{List, [], _∷_}
-use Prim.Native.Nat.{ℕ, _<_}
+use Prim.Native.Nat.{ℕ}
+use Rattle.targets.specs.Target.{Target}
 use Rattle.bench.specs.declared.Bench.{Bench}
-use Rattle.bench.specs.Target.{Target}
-use Rattle.bench.specs.State.{Limits, Present, nothing}
+use Rattle.bench.specs.State.{Limits, LimitsFit, Present, nothing}
 use Rattle.bench.specs.Calls.{afterOpen, afterGate, afterOutput, afterEntry, afterLimits, View, asTheyAre, OpenGiven, GateGiven, OutputGiven, EntryGiven, LimitsGiven, ReportGiven, StoreGiven}
 
 -- the calls, with what each is given: stored bytes, a target of either kind and limits; gate, kind and operands; output and
@@ -36,21 +36,15 @@ presentFrom p (call ∷ calls) = presentFrom (afterCall p call) calls
 abbrev pub presentAfter : List Call → Present
 presentAfter calls = presentFrom nothing calls
 
--- limits as a caller can give them: the functions take bytes
-pub record ByteLimits (l : Limits) : Type 0 where
-  pub gates : l .gates < 256
-  pub depth : l .depth < 256
-  pub andDepth : l .andDepth < 256
-
 -- one call on a bench, with some answer: what is known of the bench after it is the function's promise; report and store
 -- take the bench by value, and the caller's is as it was
 pub data StepGiven (v : View) (b : Bench) : Call → Bench → Type 0 where
   opened : {bytes : List ℕ} {t : Target} {l : Limits} {next : Bench} (answer : v .Answers)
-      → ByteLimits l → OpenGiven v b bytes t l answer next → StepGiven v b (opening bytes t l) next
+      → LimitsFit l → OpenGiven v b bytes t l answer next → StepGiven v b (opening bytes t l) next
   replaced : {k kind x y : ℕ} {next : Bench} (edit : v .Edits) → GateGiven v b k kind x y edit next → StepGiven v b (replacing k kind x y) next
   pointed : {j line : ℕ} {next : Bench} (edit : v .Edits) → OutputGiven v b j line edit next → StepGiven v b (pointing j line) next
   changed : {i value : ℕ} {next : Bench} (edit : v .Edits) → EntryGiven v b i value edit next → StepGiven v b (changing i value) next
-  limited : {l : Limits} {next : Bench} (edit : v .Edits) → ByteLimits l → LimitsGiven v b l edit next → StepGiven v b (limiting l) next
+  limited : {l : Limits} {next : Bench} (edit : v .Edits) → LimitsFit l → LimitsGiven v b l edit next → StepGiven v b (limiting l) next
   reported : (r : v .Reports) → ReportGiven v b r → StepGiven v b reporting b
   stored : {room : List ℕ} (r : v .Writings) (out : List ℕ) → StoreGiven v b room r out → StepGiven v b (storing room) b
 

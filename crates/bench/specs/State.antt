@@ -6,11 +6,12 @@ use lib.Dec.{ltb, eqb}
 use lib.ListN.{length}
 use Rattle.circuit.specs.declared.Answer.the-variants.{Done}
 use Rattle.circuit.specs.Lines.{Listing, outputOn, depthOf, andDepthOf, countsOf}
-use Rattle.circuit.specs.Reading.{listingAnswer}
+use Rattle.circuit.specs.Rules.{listingAnswer}
+use Rattle.circuit.specs.Sizes.{held16}
+use Rattle.targets.specs.Target.{Target, isMatrix, wants, targetFits}
 use Rattle.bench.specs.declared.Verdict.{Verdict}
 use Rattle.bench.specs.declared.Verdict.the-variants.{Wrong, OverGates, OverDepth, OverAndDepth, Pass}
 use Rattle.bench.specs.declared.Report.{Report}
-use Rattle.bench.specs.Target.{Target, isMatrix, wants, targetFits}
 
 -- the three limits; 0 means none allowed
 pub record Limits : Type 0 where
@@ -27,6 +28,22 @@ pub record State : Type 0 where
   pub circuit : Listing
   pub target : Target
   pub limits : Limits
+
+-- the state of a circuit, a target and limits. States are made by these functions and written out nowhere else.
+abbrev pub state : Listing → Target → Limits → State
+state c t l = record { circuit = c; target = t; limits = l }
+
+-- the state with another circuit
+abbrev pub withCircuit : State → Listing → State
+withCircuit s c = record { circuit = c; target = s .target; limits = s .limits }
+
+-- the state with another target
+abbrev pub withTarget : State → Target → State
+withTarget s t = record { circuit = s .circuit; target = t; limits = s .limits }
+
+-- the state with other limits
+abbrev pub withLimits : State → Limits → State
+withLimits s l = record { circuit = s .circuit; target = s .target; limits = l }
 
 -- what is present on a bench: nothing, or a state
 pub data Present : Type 0 where
@@ -74,13 +91,17 @@ reportOf s =
       verdict = verdictOf s;
     }
 
--- a state that keeps every rule: the circuit and the target are ones that no open refuses, and limits are bytes
+-- limits as they are held: each in 16 bits
+pub record LimitsFit (l : Limits) : Type 0 where
+  pub gates : l .gates < held16
+  pub depth : l .depth < held16
+  pub andDepth : l .andDepth < held16
+
+-- a state that keeps every rule: the circuit and the target are ones that no open refuses, and the limits can be held
 pub record Sound (s : State) : Type 0 where
   pub circuit : listingAnswer (isMatrix (s .target)) (s .circuit) ≡ Done
   pub target : targetFits (s .circuit .inputs) (length (s .circuit .outs)) (s .target) ≡ true
-  pub gates : s .limits .gates < 256
-  pub depth : s .limits .depth < 256
-  pub andDepth : s .limits .andDepth < 256
+  pub limits : LimitsFit (s .limits)
 
 -- what is present keeps every rule
 abbrev pub SoundPresent : Present → Type 0

@@ -3,24 +3,28 @@ ghost use mathlib.Core.Path.{_≡_};
 ghost use mathlib.Core.Bool.{cond};
 ghost use Prim.Native.Nat.{_^_, _≤_};
 ghost use Rattle.circuit.specs.declared.Answer.the-variants.{Refused};
-ghost use Rattle.bench.specs.Calls.{reworking, GatePromise, OutputPromise, EntryPromise, LimitsPromise};
+ghost use Rattle.circuit.specs.Sizes.{mostInputs};
+ghost use Rattle.bench.specs.Calls.{GatePromise, OutputPromise, EntryPromise, LimitsPromise};
 ghost use Rattle.bench.specs.State.{limits};
 ghost use Rattle.bench.specs.Parts.{standing, gateLook, outputLook, entryLook, unreworked};
 use crate::Bench;
 use crate::Edit;
 use crate::Edited;
 use crate::examine::rework;
-use crate::targets::value_fits;
-use crate::targets::wanted_words;
 use circuit::Answer;
+use circuit::LINES;
 use circuit::Refusal;
+use circuit::from_byte;
 use circuit::low_byte;
-use circuit::reader::check_gate;
-use circuit::reader::check_output;
-use circuit::reader::is_shape;
+use circuit::low16;
+use circuit::rules::check_gate;
+use circuit::rules::check_output;
+use circuit::rules::is_shape;
+use targets::rules::value_fits;
+use targets::wanted::wanted_words;
 
 // Something is open; numbers out of range count as nothing, so that no call leaves its bounds on any bench.
-pub(crate) fn is_standing(opened: bool, n: usize, m: usize, g: usize) -> bool
+pub fn is_standing(opened: bool, n: usize, m: usize, g: usize) -> bool
     ensures { λ r. ⌜ r ≡ standing opened n m g ⌝ }
 {
     if opened { is_shape(n, m, g) } else { false }
@@ -30,7 +34,7 @@ pub(crate) fn is_standing(opened: bool, n: usize, m: usize, g: usize) -> bool
 fn without_rework(bench: Bench, answer: Answer) -> Edited
     ensures { λ r. ⌜ r ≡ unreworked bench answer ⌝ }
 {
-    let lines = [0u8; 256];
+    let lines = [0u16; LINES];
     let edit = Edit {
         answer,
         lines,
@@ -44,28 +48,6 @@ fn refused(bench: Bench, why: Refusal) -> Edited
     ensures { λ r. ⌜ r ≡ unreworked bench (Refused why) ⌝ }
 {
     without_rework(bench, Answer::Refused(why))
-}
-
-// The marked lines in ascending order, and how many.
-fn list_lines(marks: [bool; 256]) -> Edit
-    ensures { λ r. ⌜ r ≡ reworking marks ⌝ }
-{
-    let mut lines = [0u8; 256];
-    let mut count: usize = 0;
-    let mut i: usize = 0;
-    while i < 256 {
-        if marks[i] {
-            lines[count] = low_byte(i);
-            count += 1;
-        }
-        i += 1;
-    }
-    let answer = Answer::Done;
-    Edit {
-        answer,
-        lines,
-        count,
-    }
 }
 
 // What replacing gate k is refused for.
@@ -108,20 +90,7 @@ pub fn replace_gate(bench: Bench, k: usize, kind: usize, a: usize, b: usize) -> 
         a,
         b,
     );
-    match look {
-        Answer::Refused(why) => refused(bench, why),
-        Answer::Done => {
-            let mut c = bench;
-            c.kinds[k] = low_byte(kind);
-            c.left[k] = low_byte(a);
-            c.right[k] = low_byte(b);
-            let done = rework(c, k);
-            let marks = done.marks;
-            let edit = list_lines(marks);
-            let bench = done.bench;
-            Edited { bench, edit }
-        }
-    }
+    rework(bench, look, k, low_byte(kind), low16(a), low16(b))
 }
 
 // What pointing output j is refused for.
@@ -148,7 +117,7 @@ pub fn point_output(bench: Bench, j: usize, line: usize) -> Edited
         Answer::Refused(why) => refused(bench, why),
         Answer::Done => {
             let mut c = bench;
-            c.outputs[j] = low_byte(line);
+            c.outputs[j] = low16(line);
             without_rework(c, Answer::Done)
         }
     }
@@ -156,7 +125,7 @@ pub fn point_output(bench: Bench, j: usize, line: usize) -> Edited
 
 // How many rows or entries a target has.
 fn target_length(only: bool, n: usize, m: usize) -> usize
-    requires { ⌜ n ≤ 8 ⌝ }
+    requires { ⌜ n ≤ mostInputs ⌝ }
     ensures { λ r. ⌜ r ≡ cond only m (2 ^ n) ⌝ }
 {
     if only { m } else { 1usize << n }
@@ -220,9 +189,9 @@ pub fn set_limits(bench: Bench, gates: u8, depth: u8, ands: u8) -> Edited
 {
     if is_standing(bench.is_open, bench.n, bench.m, bench.g) {
         let mut c = bench;
-        c.max_gates = gates;
-        c.max_depth = depth;
-        c.max_and_depth = ands;
+        c.max_gates = from_byte(gates);
+        c.max_depth = from_byte(depth);
+        c.max_and_depth = from_byte(ands);
         without_rework(c, Answer::Done)
     } else {
         refused(bench, Refusal::NothingOpen)

@@ -1,15 +1,17 @@
 // The bench by value: one circuit, one target and three limits, with what is held for each line.
 use circuit::Answer;
+use circuit::GATES;
+use circuit::LINES;
+use circuit::OUTPUTS;
 use circuit::Refusal;
 use circuit::Tally;
+use circuit::VALUES;
 use circuit::Words;
 
 pub mod opening; // opening.rt: an empty bench, and opening a circuit with its target and limits
 pub mod edits; // edits.rt: replacing a gate, pointing an output, changing an entry, setting limits
-pub mod reporting; // reporting.rt: the counts and the verdict
 pub mod storing; // storing.rt: the circuit's stored bytes into a lent room
 mod examine; // examine.rt: what each line has, afresh or for the readers of one gate
-mod targets; // targets.rt: the target's rules, and what it wants in words
 
 // What stands on the bench. Gate k is `kinds[k]`, `left[k]`, `right[k]`; a line's entry in `depths`, `and_depths` and
 // `values` has the line's number; `wanted` has for each output the values that the target wants. Zeros past the last.
@@ -20,18 +22,18 @@ pub struct Bench {
     pub n: usize,
     pub m: usize,
     pub g: usize,
-    pub max_gates: u8,
-    pub max_depth: u8,
-    pub max_and_depth: u8,
-    pub kinds: [u8; 248],
-    pub left: [u8; 248],
-    pub right: [u8; 248],
-    pub outputs: [u8; 32],
-    pub target: [u8; 256],
-    pub wanted: [Words; 32],
-    pub depths: [u8; 256],
-    pub and_depths: [u8; 256],
-    pub values: [Words; 256],
+    pub max_gates: u16,
+    pub max_depth: u16,
+    pub max_and_depth: u16,
+    pub kinds: [u8; GATES],
+    pub left: [u16; GATES],
+    pub right: [u16; GATES],
+    pub outputs: [u16; OUTPUTS],
+    pub target: [u8; VALUES],
+    pub wanted: [Words; OUTPUTS],
+    pub depths: [u8; LINES],
+    pub and_depths: [u8; LINES],
+    pub values: [Words; LINES],
 }
 
 // Where a circuit is wrong: the smallest input value with a differing output, and the smallest such output there.
@@ -65,7 +67,7 @@ pub enum Reported {
 // What an edit answers: whether it was accepted, the lines that it reworked in ascending order, and how many.
 pub struct Edit {
     pub answer: Answer,
-    pub lines: [u8; 256],
+    pub lines: [u16; LINES],
     pub count: usize,
 }
 

@@ -2,9 +2,10 @@
 ghost use mathlib.Core.Path.{_≡_};
 ghost use Prim.Native.Nat.{_≤_};
 ghost use lib.ListN.{length};
-ghost use Rattle.bench.specs.Target.{matrix, table, targetOf};
 ghost use Rattle.circuit.specs.declared.Answer.the-variants.{Refused};
+ghost use Rattle.circuit.specs.Sizes.{mostInputs, mostOutputs, mostGates, mostValues};
 ghost use Rattle.circuit.specs.Lines.{padded};
+ghost use Rattle.targets.specs.Target.{matrix, table, targetOf};
 ghost use Rattle.bench.specs.Held.{emptyBench};
 ghost use Rattle.bench.specs.Calls.{OpenPromise};
 ghost use Rattle.bench.specs.State.{limits};
@@ -12,27 +13,32 @@ ghost use Rattle.bench.specs.Parts.{placedOf};
 use crate::Bench;
 use crate::Opened;
 use crate::examine::examine;
-use crate::targets::target_fits;
-use crate::targets::wanted_words;
 use circuit::Answer;
 use circuit::Circuit;
+use circuit::GATES;
+use circuit::LINES;
 use circuit::NO_WORDS;
+use circuit::OUTPUTS;
 use circuit::Refusal;
-use circuit::reader::read;
+use circuit::VALUES;
+use circuit::from_byte;
+use stored::reader::read;
+use targets::rules::target_fits;
+use targets::wanted::wanted_words;
 
 // A bench with nothing open.
 pub fn empty() -> Bench
     ensures { λ r. ⌜ r ≡ emptyBench ⌝ }
 {
-    let kinds = [0u8; 248];
-    let left = [0u8; 248];
-    let right = [0u8; 248];
-    let outputs = [0u8; 32];
-    let target = [0u8; 256];
-    let wanted = [NO_WORDS; 32];
-    let depths = [0u8; 256];
-    let and_depths = [0u8; 256];
-    let values = [NO_WORDS; 256];
+    let kinds = [0u8; GATES];
+    let left = [0u16; GATES];
+    let right = [0u16; GATES];
+    let outputs = [0u16; OUTPUTS];
+    let target = [0u8; VALUES];
+    let wanted = [NO_WORDS; OUTPUTS];
+    let depths = [0u8; LINES];
+    let and_depths = [0u8; LINES];
+    let values = [NO_WORDS; LINES];
     Bench {
         is_open: false,
         is_matrix: false,
@@ -55,11 +61,11 @@ pub fn empty() -> Bench
 }
 
 // The target's bytes, and zeros past the last.
-fn target_bytes(bytes: &[u8]) -> [u8; 256]
-    requires { ⌜ length (now bytes) ≤ 256 ⌝ }
-    ensures { λ r. ⌜ r ≡ padded 256 0 (now (bytes .entry)) ⌝ }
+fn target_bytes(bytes: &[u8]) -> [u8; VALUES]
+    requires { ⌜ length (now bytes) ≤ mostValues ⌝ }
+    ensures { λ r. ⌜ r ≡ padded mostValues 0 (now (bytes .entry)) ⌝ }
 {
-    let mut target = [0u8; 256];
+    let mut target = [0u8; VALUES];
     let mut i: usize = 0;
     while i < bytes.len() {
         target[i] = bytes[i];
@@ -69,9 +75,9 @@ fn target_bytes(bytes: &[u8]) -> [u8; 256]
 }
 
 // A circuit with its target and limits, every line examined.
-fn placed(c: Circuit, only: bool, bytes: &[u8], gates: u8, depth: u8, ands: u8) -> Bench
-    requires { ⌜ (c .n ≤ 8) × (c .m ≤ 32) × (c .g ≤ 248) × (length (now bytes) ≤ 256) ⌝ }
-    ensures { λ r. ⌜ r ≡ placedOf c only (now (bytes .entry)) gates depth ands ⌝ }
+fn placed(c: Circuit, only: bool, bytes: &[u8], gates: u16, depth: u16, ands: u16) -> Bench
+    requires { ⌜ (c .n ≤ mostInputs) × (c .m ≤ mostOutputs) × (c .g ≤ mostGates) × (length (now bytes) ≤ mostValues) ⌝ }
+    ensures { λ r. ⌜ r ≡ placedOf c only (now (bytes .entry)) (limits gates depth ands) ⌝ }
 {
     let n = c.n;
     let m = c.m;
@@ -82,9 +88,9 @@ fn placed(c: Circuit, only: bool, bytes: &[u8], gates: u8, depth: u8, ands: u8) 
     let outputs = c.outputs;
     let target = target_bytes(bytes);
     let wanted = wanted_words(only, &target, m);
-    let depths = [0u8; 256];
-    let and_depths = [0u8; 256];
-    let values = [NO_WORDS; 256];
+    let depths = [0u8; LINES];
+    let and_depths = [0u8; LINES];
+    let values = [NO_WORDS; LINES];
     examine(Bench {
         is_open: true,
         is_matrix: only,
@@ -133,7 +139,14 @@ fn open_with(
         Answer::Done => {
             let c = reading.circuit;
             if target_fits(only, c.n, c.m, target) {
-                let bench = placed(c, only, target, gates, depth, ands);
+                let bench = placed(
+                    c,
+                    only,
+                    target,
+                    from_byte(gates),
+                    from_byte(depth),
+                    from_byte(ands),
+                );
                 let answer = Answer::Done;
                 Opened { bench, answer }
             } else {

@@ -6,7 +6,7 @@ use crate::Bench;
 use crate::edits::is_standing;
 use circuit::Circuit;
 use circuit::Refusal;
-use circuit::Writing;
+use stored::Writing;
 
 // The circuit that stands on the bench.
 pub fn circuit_of(b: Bench) -> Circuit
@@ -32,7 +32,7 @@ pub fn store(bench: Bench, room: &mut [u8]) -> Writing
     ensures { λ r. ⌜ StorePromise bench (now (room .entry)) r (now (room .exit)) ⌝ }
 {
     if is_standing(bench.is_open, bench.n, bench.m, bench.g) {
-        circuit::writer::write(circuit_of(bench), room)
+        stored::writer::write(circuit_of(bench), room)
     } else {
         Writing::NotWritten(Refusal::NothingOpen)
     }

@@ -6,7 +6,8 @@ use lib.ListN.{set}
 use Rattle.circuit.specs.declared.Answer.the-variants.{Done}
 use Rattle.bench.specs.declared.Bench.{Bench}
 use Rattle.bench.specs.Parts.{unreworked}
-use Rattle.bench.proofs.EntryLaws.{EntryFits, entry-fits, entryLookOn, entry-refused, entry-done, retargeted, aimed}
+use Rattle.bench.specs.Held.{retargeted}
+use Rattle.bench.proofs.EntryLaws.{entry-there, entryLookOn, entry-refused, entry-done, aimed}
 use Rattle.bench.proofs.edits.change_entry.Statement.{statement}
 use Rattle.bench.proofs.edits.change_entry.Tie as tie
 
@@ -29,14 +30,11 @@ low-byte-requires c κs = search needs
 looked : (c : tie.After-enum-told) → let a = c .before .before .before .args in entryLookOn (a .i) (a .value) (a .bench) ≡ Done
 looked c = sym (c .before .before .look-at-entry .ensures) ∙ c .enum-told .given .1
 
-ok : (c : tie.After-enum-told) → let a = c .before .before .before .args in EntryFits (a .bench .n) (a .bench .m) (a .bench .g) (a .i)
-ok c = entry-fits _ _ _ _ _ _ _ (looked c)
-
 element-write-c : tie.Need-element-write-c
-element-write-c c = ok (c .before) .there
+element-write-c c = entry-there _ _ _ _ _ _ _ (looked (c .before))
 
 wanted-words-requires : tie.Need-wanted-words-requires
-wanted-words-requires c κs = ok (c .before .before .before) .shape .m32
+wanted-words-requires c κs = search needs
 
 without-rework-requires : tie.Need-without-rework-requires
 without-rework-requires c κs = search needs

@@ -6,7 +6,7 @@ use native.Mathlib.Omega.{arith}
 use lib.Dec.{ltb}
 use borrow.Author.Tests.{lt-ltb, le-ltb}
 use borrow.Author.Needs.{needs}
-use Rattle.circuit.proofs.Accept.{Shaped}
+use Rattle.circuit.proofs.Shapes.{Shaped}
 use Rattle.bench.specs.Parts.{standing, entryLook}
 use Rattle.bench.proofs.Stood.{standing-shaped}
 use Rattle.bench.proofs.edits.look_at_entry.Statement.{statement}
@@ -23,10 +23,10 @@ ok : (c : tie.Then1) → let a = c .before .before .args in Shaped (a .n) (a .m)
 ok c = standing-shaped (c .before .before .args .opened) _ _ _ (stood c)
 
 target-length-requires : tie.Need-target-length-requires
-target-length-requires c κs = ok c .n8
+target-length-requires c κs = ok c .n-most
 
 value-fits-requires : tie.Need-value-fits-requires
-value-fits-requires c κs = let o = ok (c .before .before) in (o .n8, o .m32)
+value-fits-requires c κs = search needs
 
 -- what the second showed
 there : (c : tie.Then2) → let a = c .before .before .before .before .args in ltb (a .i) (cond (a .only) (a .m) (2 ^ a .n)) ≡ true

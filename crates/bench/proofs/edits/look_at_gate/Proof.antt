@@ -3,7 +3,7 @@ use borrow.Author.Needs.{needs}
 use borrow.Author.Tests.{lt-ltb, le-ltb}
 use native.Mathlib.Omega.{arith}
 use mathlib.Core.Path.{sym, _∙_}
-use Rattle.circuit.proofs.Accept.{shape-is, both}
+use Rattle.circuit.proofs.Shapes.{shape-is, both}
 use Rattle.bench.specs.Parts.{gateLook}
 use Rattle.bench.proofs.edits.look_at_gate.Statement.{statement}
 use Rattle.bench.proofs.edits.look_at_gate.Tie as tie

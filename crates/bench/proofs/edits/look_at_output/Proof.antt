@@ -4,7 +4,7 @@ use mathlib.Core.Bool.{true}
 use native.Mathlib.Omega.{arith}
 use borrow.Author.Tests.{lt-ltb, le-ltb}
 use borrow.Author.Needs.{needs}
-use Rattle.circuit.proofs.Accept.{Shaped}
+use Rattle.circuit.proofs.Shapes.{Shaped}
 use Rattle.bench.specs.Parts.{standing, outputLook}
 use Rattle.bench.proofs.Stood.{standing-shaped}
 use Rattle.bench.proofs.edits.look_at_output.Statement.{statement}

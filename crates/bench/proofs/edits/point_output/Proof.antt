@@ -4,10 +4,10 @@ use Prim.Native.Nat.{ℕ}
 use native.Mathlib.Nat.{mod-eq-of-lt}
 use native.Mathlib.Omega.{arith}
 use lib.ListN.{set}
+use borrow.Author.Needs.{needs}
 use Rattle.circuit.specs.declared.Answer.the-variants.{Done}
 use Rattle.bench.specs.Parts.{outputLook, unreworked}
 use Rattle.bench.proofs.EditLaws.{OutputFits, output-fits, output-refused, output-done, pointing}
-use borrow.Author.Needs.{needs}
 use Rattle.bench.proofs.edits.point_output.Statement.{statement}
 use Rattle.bench.proofs.edits.point_output.Tie as tie
 
@@ -23,6 +23,9 @@ refused-requires c κs = search needs
 enum-told : tie.Need-enum-told
 enum-told c = search needs
 
+low16-requires : tie.Need-low16-requires
+low16-requires c κs = search needs
+
 -- what was looked at showed
 looked : (c : tie.After-enum-told) → let a = c .before .before .before .args in outputLook (a .bench .«is_open») (a .bench .n) (a .bench .m) (a .bench .g) (a .j) (a .line) ≡ Done
 looked c = sym (c .before .before .look-at-output .ensures) ∙ c .enum-told .given .1
@@ -30,8 +33,8 @@ looked c = sym (c .before .before .look-at-output .ensures) ∙ c .enum-told .gi
 ok : (c : tie.After-enum-told) → let a = c .before .before .before .args in OutputFits (a .bench .n) (a .bench .m) (a .bench .g) (a .j) (a .line)
 ok c = output-fits _ _ _ _ _ _ (looked c)
 
-low-byte-requires : tie.Need-low-byte-requires
-low-byte-requires c κs = search needs
+mul-c : tie.Need-mul-c
+mul-c c = omega (arith, ok (c .before), ok (c .before) .shape)
 
 element-write-c : tie.Need-element-write-c
 element-write-c c = omega (arith, ok (c .before), ok (c .before) .shape)
@@ -53,7 +56,7 @@ returns-2 c =
     output-done (a .j) (a .line) (a .bench) _ (looked t)
     (c .without-rework .ensures
     ∙ ap (λ (x : ℕ). unreworked (pointing (a .bench) (set (a .bench .outputs) (a .j) x)) Done)
-    (c .before .low-byte .ensures ∙ mod-eq-of-lt (omega (arith, ok t, ok t .shape))))
+    (c .before .low16 .ensures ∙ mod-eq-of-lt (omega (arith, ok t, ok t .shape))))
 
 pub point-output-spec : {M : Type 1} → statement M
 point-output-spec =
@@ -63,7 +66,8 @@ point-output-spec =
     enum-known-look
     refused-requires
     enum-told
-    low-byte-requires
+    low16-requires
+    mul-c
     element-write-c
     without-rework-requires
     returns

@@ -2,9 +2,9 @@
 use mathlib.Core.Path.{_∙_, sym, ap}
 use mathlib.Core.Bool.{Bool, cond}
 use Prim.Native.Nat.{_^_}
-use Rattle.bench.proofs.Fitting.{shift-is}
 use native.Mathlib.Omega.{arith}
 use borrow.Author.Needs.{needs}
+use Rattle.targets.proofs.Fitting.{shift-is}
 use Rattle.bench.proofs.edits.target_length.Statement.{statement}
 use Rattle.bench.proofs.edits.target_length.Tie as tie
 

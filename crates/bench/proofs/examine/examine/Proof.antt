@@ -1,7 +1,9 @@
 -- `examine`: the loop keeps `Examining`; every index is a byte or a line of the circuit.
 use borrow.Author.Needs.{needs}
-use mathlib.Core.Path.{refl, _∙_}
+use mathlib.Core.Path.{refl, _∙_, ap}
 use Prim.Native.Nat.{_-_}
+use Rattle.circuit.specs.Structs.{lineIn}
+use Rattle.circuit.proofs.Operands.{second-line}
 use Rattle.bench.specs.Parts.{examinedAs}
 use Rattle.bench.proofs.Examining.{Examining, examine-start, examine-next, examine-done}
 use Rattle.bench.proofs.examine.examine.Statement.{statement}
@@ -24,14 +26,23 @@ loop-holds c =
 array-read-kind : tie.Need-array-read-kind Inv-loop μ-loop
 array-read-kind c = search needs
 
-array-read-wide : tie.Need-array-read-wide Inv-loop μ-loop
-array-read-wide c = search needs
+mul-line-index : tie.Need-mul-line-index Inv-loop μ-loop
+mul-line-index c = search needs
 
-wide-requires : tie.Need-wide-requires Inv-loop μ-loop
-wide-requires c κs = search needs
+array-read-line-index : tie.Need-array-read-line-index Inv-loop μ-loop
+array-read-line-index c = search needs
+
+line-index-requires : tie.Need-line-index-requires Inv-loop μ-loop
+line-index-requires c κs = search needs
+
+mul-second-read : tie.Need-mul-second-read Inv-loop μ-loop
+mul-second-read c = search needs
 
 array-read-second-read : tie.Need-array-read-second-read Inv-loop μ-loop
 array-read-second-read c = search needs
+
+mul-second-read-2 : tie.Need-mul-second-read-2 Inv-loop μ-loop
+mul-second-read-2 c = search needs
 
 array-read-second-read-2 : tie.Need-array-read-second-read-2 Inv-loop μ-loop
 array-read-second-read-2 c = search needs
@@ -39,8 +50,8 @@ array-read-second-read-2 c = search needs
 second-read-requires : tie.Need-second-read-requires Inv-loop μ-loop
 second-read-requires c κs = search needs
 
-wide-requires-2 : tie.Need-wide-requires-2 Inv-loop μ-loop
-wide-requires-2 c κs = search needs
+line-index-requires-2 : tie.Need-line-index-requires-2 Inv-loop μ-loop
+line-index-requires-2 c κs = search needs
 
 add-at : tie.Need-add-at Inv-loop μ-loop
 add-at c = search needs
@@ -84,8 +95,8 @@ element-copy-out-eval-gate-2 c = search needs
 eval-gate-requires : tie.Need-eval-gate-requires Inv-loop μ-loop
 eval-gate-requires c κs = search needs
 
-mul-t47 : tie.Need-mul-t47 Inv-loop μ-loop
-mul-t47 c = search needs
+mul-t50 : tie.Need-mul-t50 Inv-loop μ-loop
+mul-t50 c = search needs
 
 element-set-from-c : tie.Need-element-set-from-c Inv-loop μ-loop
 element-set-from-c c = search needs
@@ -106,8 +117,8 @@ loop-again c =
     let i = x .before in
     let h = i .before in
     let s = h .before .before .before .before .before .before .before in
-    examine-next _ (h .loop .c) (h .loop .j) (x .wide .result) (y .wide2 .result) (d .deeper .result) (a .and-deeper .result) (c .eval-gate .result)
-    (s .pre .0) (s .pre .1) (i .loop-test .taken) (h .loop .inv) (x .wide .ensures .0) (y .wide2 .ensures .0 ∙ q .second-read .ensures)
+    examine-next _ (h .loop .c) (h .loop .j) (x .line-index .result) (y .line-index2 .result) (d .deeper .result) (a .and-deeper .result) (c .eval-gate .result)
+    (s .pre .0) (s .pre .1) (i .loop-test .taken) (h .loop .inv) (x .line-index .ensures .0) (y .line-index2 .ensures .0 ∙ ap lineIn (q .second-read .ensures) ∙ second-line _ _ _)
     (record { depth = d .deeper .ensures; and = a .and-deeper .ensures; value = c .eval-gate .ensures })
 
 returns : tie.Need-returns Inv-loop μ-loop
@@ -124,12 +135,15 @@ examine-spec =
     inputs-only-requires
     loop-holds
     array-read-kind
-    array-read-wide
-    wide-requires
+    mul-line-index
+    array-read-line-index
+    line-index-requires
+    mul-second-read
     array-read-second-read
+    mul-second-read-2
     array-read-second-read-2
     second-read-requires
-    wide-requires-2
+    line-index-requires-2
     add-at
     element-copy-out-deeper
     element-copy-out-deeper-2
@@ -144,7 +158,7 @@ examine-spec =
     mul-eval-gate-2
     element-copy-out-eval-gate-2
     eval-gate-requires
-    mul-t47
+    mul-t50
     element-set-from-c
     add-j
     loop-less

@@ -8,12 +8,13 @@ use lib.ListN.{take, set}
 use Rattle.circuit.specs.declared.Words.{Words}
 use Rattle.circuit.specs.Gate.{noWords}
 use Rattle.circuit.specs.Lines.{inputWords, padded}
+use Rattle.circuit.specs.Sizes.{mostLines}
 use Rattle.circuit.proofs.Padding.{padded-next}
 use Rattle.bench.proofs.examine.inputs_only.Statement.{statement}
 use Rattle.bench.proofs.examine.inputs_only.Tie as tie
 
 abbrev Inv-loop : tie.InvT-loop
-Inv-loop n values₀ i₀ values i = (i ≤ n) × (values ≡ padded 256 noWords (take i inputWords))
+Inv-loop n values₀ i₀ values i = (i ≤ n) × (values ≡ padded mostLines noWords (take i inputWords))
 
 abbrev μ-loop : tie.MeasureT-loop
 μ-loop n values₀ i₀ values i = n - i
@@ -42,13 +43,13 @@ loop-again c =
     let i = h .loop .i in (
       search needs,
       ap (λ (l : List Words). set l i (c .input-words .result)) (h .loop .inv .1)
-          ∙ padded-next 256 noWords inputWords i (c .input-words .result) (omega arith) (omega arith) (c .input-words .ensures),
+          ∙ padded-next mostLines noWords inputWords i (c .input-words .result) (omega arith) (omega arith) (c .input-words .ensures),
     )
 
 returns : tie.Need-returns Inv-loop μ-loop
 returns c =
     let e : c .before .loop .i ≡ c .before .before .args .n = omega arith in
-    c .before .loop .inv .1 ∙ ap (λ (x : ℕ). padded 256 noWords (take x inputWords)) e
+    c .before .loop .inv .1 ∙ ap (λ (x : ℕ). padded mostLines noWords (take x inputWords)) e
 
 pub inputs-only-spec : {M : Type 1} → statement M
 inputs-only-spec =

@@ -1,6 +1,7 @@
 -- `bench::opening::placed` meets its contract. Assumes nothing.
 use mathlib.Core.Path.{_∙_}
 use borrow.Author.Needs.{needs}
+use Rattle.bench.specs.State.{limits}
 use Rattle.bench.proofs.OpenLaws.{placed-by}
 use Rattle.bench.proofs.opening.placed.Statement.{statement}
 use Rattle.bench.proofs.opening.placed.Tie as tie
@@ -20,7 +21,7 @@ returns c =
     let t = w .before .before in
     let a = t .before .before .before .before .before .before .args in
     c .examine .ensures
-    ∙ placed-by (a .c) (a .only) (a .bytes .now) (t .target-bytes .result) (w .wanted-words .result) (a .gates) (a .depth) (a .ands)
+    ∙ placed-by (a .c) (a .only) (a .bytes .now) (t .target-bytes .result) (w .wanted-words .result) (limits (a .gates) (a .depth) (a .ands))
     (t .target-bytes .ensures) (w .wanted-words .ensures)
 
 pub placed-spec : {M : Type 1} → statement M

@@ -6,12 +6,13 @@ use native.Mathlib.Omega.{arith}
 use lib.ListN.{length, getD, set, take}
 use borrow.Author.Needs.{needs}
 use Rattle.circuit.specs.Lines.{padded}
+use Rattle.circuit.specs.Sizes.{mostValues}
 use Rattle.circuit.proofs.Padding.{padded-next, padded-all}
 use Rattle.bench.proofs.opening.target_bytes.Statement.{statement}
 use Rattle.bench.proofs.opening.target_bytes.Tie as tie
 
 abbrev Inv-loop : tie.InvT-loop
-Inv-loop bytes target₀ i₀ target i = (i ≤ length bytes) × (target ≡ padded 256 0 (take i bytes))
+Inv-loop bytes target₀ i₀ target i = (i ≤ length bytes) × (target ≡ padded mostValues 0 (take i bytes))
 
 abbrev μ-loop : tie.MeasureT-loop
 μ-loop bytes target₀ i₀ target i = length bytes - i
@@ -36,14 +37,14 @@ loop-again c =
     let h = c .before .before in
     let bytes = h .before .args .bytes .now in
     let i = h .loop .i in
-    (search needs, ap (λ (l : List ℕ). set l i (getD bytes i 0)) (h .loop .inv .1) ∙ padded-next 256 0 bytes i (getD bytes i 0) (omega arith) (omega arith) refl)
+    (search needs, ap (λ (l : List ℕ). set l i (getD bytes i 0)) (h .loop .inv .1) ∙ padded-next mostValues 0 bytes i (getD bytes i 0) (omega arith) (omega arith) refl)
 
 returns : tie.Need-returns Inv-loop μ-loop
 returns c =
     let h = c .before in
     let bytes = h .before .args .bytes .now in
     let e : h .loop .i ≡ length bytes = omega arith in
-    h .loop .inv .1 ∙ padded-all 256 0 bytes (h .loop .i) e
+    h .loop .inv .1 ∙ padded-all mostValues 0 bytes (h .loop .i) e
 
 pub target-bytes-spec : {M : Type 1} → statement M
 target-bytes-spec =

@@ -1,8 +1,8 @@
 -- `bench::storing::store` meets its contract. Assumes nothing.
 use mathlib.Core.Path.{_∙_, sym, subst}
-use Rattle.circuit.specs.declared.Circuit.{Circuit}
-use Rattle.circuit.specs.Writing.{Wrote}
 use borrow.Author.Needs.{needs}
+use Rattle.circuit.specs.declared.Circuit.{Circuit}
+use Rattle.stored.specs.Writing.{Wrote}
 use Rattle.bench.proofs.StoreLaws.{stored-open, stored-shut}
 use Rattle.bench.proofs.storing.store.Statement.{statement}
 use Rattle.bench.proofs.storing.store.Tie as tie
