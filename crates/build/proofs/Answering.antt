@@ -10,12 +10,13 @@ use lib.ListN.{length, getD, drop}
 use Rattle.circuit.specs.declared.Answer.{Answer}
 use Rattle.circuit.specs.declared.Answer.the-variants.{Done, Refused}
 use Rattle.circuit.specs.declared.Refusal.the-variants.{Length}
-use Rattle.circuit.specs.Stored.{listed}
-use Rattle.circuit.proofs.Back.{listed-held}
+use Rattle.circuit.specs.Structs.{listed}
+use Rattle.circuit.proofs.Listed.{listed-held}
 use Rattle.builder.specs.declared.Planned.{Planned}
 use Rattle.builder.specs.Call.{built, refusal, planned, planOf}
 use Rattle.builder.proofs.Promise.{built-shaped}
 use Rattle.builder.proofs.Refusals.{accepted}
+use Rattle.builder.proofs.Solved.{sound-circuit}
 use Rattle.listing.specs.Printed.{listingText, refusedText}
 use Rattle.build.specs.Answered.{whole, planText, answerText, Fits}
 
@@ -46,10 +47,10 @@ module _ (s : List ℕ) where
 pub plan-text : (n : ℕ) (ts : List ℕ) (D : ℕ) (p : Planned) → p ≡ planOf n ts D
     → planText (p .answer) (listed (p .circuit)) ≡ planText (refusal n ts D) (built n ts D)
 unfolding planOf
-plan-text n ts D p e = ap (λ (q : Planned). planText (q .answer) (listed (q .circuit))) e ∙ by (refusal n ts D) where
-  by : (a : Answer) → planText (planned a (built n ts D) .answer) (listed (planned a (built n ts D) .circuit)) ≡ planText a (built n ts D)
-  by Done = ap listingText (listed-held (built n ts D))
-  by (Refused w) = refl
+plan-text n ts D p e = ap (λ (q : Planned). planText (q .answer) (listed (q .circuit))) e ∙ by (refusal n ts D) refl where
+  by : (a : Answer) → refusal n ts D ≡ a → planText (planned a (built n ts D) .answer) (listed (planned a (built n ts D) .circuit)) ≡ planText a (built n ts D)
+  by Done h = ap listingText (listed-held true (built n ts D) (sound-circuit n ts D (accepted n ts D h)))
+  by (Refused w) h = refl
 
 -- a plan that is accepted is in range
 pub plan-fits : (n : ℕ) (ts : List ℕ) (D : ℕ) (p : Planned) → p ≡ planOf n ts D → Fits p

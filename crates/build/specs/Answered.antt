@@ -9,7 +9,7 @@ use Rattle.circuit.specs.declared.Answer.{Answer}
 use Rattle.circuit.specs.declared.Answer.the-variants.{Done, Refused}
 use Rattle.circuit.specs.declared.Refusal.the-variants.{Length}
 use Rattle.circuit.specs.Lines.{Listing}
-use Rattle.circuit.specs.Reading.{shaped}
+use Rattle.circuit.specs.Rules.{shaped}
 use Rattle.builder.specs.declared.Planned.{Planned}
 use Rattle.builder.specs.Call.{built, refusal}
 use Rattle.listing.specs.Printed.{listingText, refusedText}

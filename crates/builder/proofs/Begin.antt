@@ -9,8 +9,9 @@ use lib.Dec.{eqb}
 use lib.ListN.{length, getD, take, replicate, length-append, length-map, length-replicate, replicate-append-replicate}
 use lib.Seq.{take-at}
 use Rattle.circuit.specs.Lines.{padded, Gate}
-use Rattle.circuit.specs.Stored.{held}
-use Rattle.circuit.proofs.Padding.{padded-none}
+use Rattle.circuit.specs.Structs.{column, held}
+use Rattle.circuit.specs.Sizes.{mostInputs, mostOutputs, mostGates, mostLines}
+use Rattle.circuit.proofs.Padding.{padded-none, padded-same}
 use Rattle.distance.specs.Base.{Line, line, baseOf, Xor, made, run, Small, Shallow, inputs, weight}
 use Rattle.distance.specs.Distance.{gates, distance}
 use Rattle.distance.proofs.Fewest.{distance-fewest, fewest-distance}
@@ -22,22 +23,22 @@ use Rattle.builder.specs.Kept.{SoundRows, Alive, rowsOf, base, Poised, S
 use Rattle.builder.proofs.Refusals.{Accepted, fit, any-none}
 
 -- ---- one limit for all rows
-pub limits-taken : (m D : ℕ) → m ≤ 32 → take m (replicate 32 D) ≡ replicate m D
+pub limits-taken : (m D : ℕ) → m ≤ mostOutputs → take m (replicate mostOutputs D) ≡ replicate m D
 limits-taken m D h =
-    let e : 32 ≡ m + (32 - m) = omega arith in
+    let e : mostOutputs ≡ m + (mostOutputs - m) = omega arith in
     ap (λ (x : ℕ). take m (replicate x D)) e
-    ∙ ap (take m) (sym (replicate-append-replicate m (32 - m) D))
-    ∙ take-at (replicate m D) (replicate (32 - m) D) m (length-replicate m D)
+    ∙ ap (take m) (sym (replicate-append-replicate m (mostOutputs - m) D))
+    ∙ take-at (replicate m D) (replicate (mostOutputs - m) D) m (length-replicate m D)
 
 rows-same : (D : ℕ) (ts : List ℕ) → rowsOf ts (replicate (length ts) D) ≡ within D ts
 rows-same D [] = refl
 rows-same D (t ∷ ts) = ap (λ (l : List Row). row t D ∷ l) (rows-same D ts)
 
-pub rows-within : (D : ℕ) (ts : List ℕ) → length ts ≤ 32 → rowsOf ts (take (length ts) (replicate 32 D)) ≡ within D ts
+pub rows-within : (D : ℕ) (ts : List ℕ) → length ts ≤ mostOutputs → rowsOf ts (take (length ts) (replicate mostOutputs D)) ≡ within D ts
 rows-within D ts h = ap (rowsOf ts) (limits-taken (length ts) D h) ∙ rows-same D ts
 
 -- ---- the inputs
-is-inputs : (n : ℕ) → n ≤ 8 → baseOf (take n (1 ∷ 2 ∷ 4 ∷ 8 ∷ 16 ∷ 32 ∷ 64 ∷ 128 ∷ replicate 248 0)) (take n (replicate 256 0)) ≡ inputs n
+is-inputs : (n : ℕ) → n ≤ mostInputs → baseOf (take n (1 ∷ 2 ∷ 4 ∷ 8 ∷ 16 ∷ 32 ∷ 64 ∷ 128 ∷ replicate mostGates 0)) (take n (replicate mostLines 0)) ≡ inputs n
 is-inputs zero h = refl
 is-inputs (suc zero) h = refl
 is-inputs (suc (suc zero)) h = refl
@@ -53,7 +54,7 @@ pub inputs-length : (n : ℕ) → length (inputs n) ≡ n
 inputs-length zero = refl
 inputs-length (suc n) = omega (arith, length-append (inputs n) (line (2 ^ n) 0 ∷ []), inputs-length n)
 
-pub begun-base : (n : ℕ) (ts : List ℕ) (s : State) → n ≤ 8 → Begun n ts s → base s ≡ inputs n
+pub begun-base : (n : ℕ) (ts : List ℕ) (s : State) → n ≤ mostInputs → Begun n ts s → base s ≡ inputs n
 unfolding base
 begun-base n ts s h b = (λ i. baseOf (take (b .long i) (b .masks-are i)) (take (b .long i) (b .depths-are i))) ∙ is-inputs n h
 
@@ -65,7 +66,7 @@ pub record Right (n D t : ℕ) : Type 0 where
   pub below : t < 2 ^ n
   pub light : weight n t ≤ 2 ^ D
 
-pub reach-inputs : (n D t : ℕ) → n ≤ 8 → D ≤ 15 → Right n D t → reach (inputs n) (row t D) ≡ gates (weight n t - 1)
+pub reach-inputs : (n D t : ℕ) → n ≤ mostInputs → D ≤ 15 → Right n D t → reach (inputs n) (row t D) ≡ gates (weight n t - 1)
 unfolding reach
 reach-inputs n D t h d r = go (weight n t) refl
   where
@@ -109,9 +110,9 @@ rights n ts D a i h =
     record { some = f .some i h; below = f .below i; light = ltb-false (2 ^ D) (weight n (getD ts i 0)) (any-none (tooHeavy n D) ts (a .light) i h) }
 
 -- ---- the state before the first step stands
-module _ (n : ℕ) (ts : List ℕ) (D : ℕ) (a : Accepted n ts D) (s : State) (b : Begun n ts s) (wide : length (s .masks) ≡ 256) where
+module _ (n : ℕ) (ts : List ℕ) (D : ℕ) (a : Accepted n ts D) (s : State) (b : Begun n ts s) (wide : length (s .masks) ≡ mostLines) where
   abbrev limits : List ℕ
-  limits = take (length ts) (replicate 32 D)
+  limits = take (length ts) (replicate mostOutputs D)
 
   few : Fit n ts
   few = fit n ts (a .shape) (a .rows)
@@ -125,8 +126,8 @@ module _ (n : ℕ) (ts : List ℕ) (D : ℕ) (a : Accepted n ts D) (s : State) (
   R : (i : ℕ) → i < length ts → Right n D (getD ts i 0)
   R = rights n ts D a
 
-  zeros : (i : ℕ) → getD (replicate 256 0) i 0 < 16
-  zeros i = shallow 256 i
+  zeros : (i : ℕ) → getD (replicate mostLines 0) i 0 < 16
+  zeros i = shallow mostLines i
     where
       shallow : (k i : ℕ) → getD (replicate k 0) i 0 < 16
       shallow zero i = omega arith
@@ -141,7 +142,7 @@ module _ (n : ℕ) (ts : List ℕ) (D : ℕ) (a : Accepted n ts D) (s : State) (
       record {
         within = omega (arith, b .long, few .inputs);
         wide = wide;
-        deep = ap length (b .depths-are) ∙ length-replicate {A = ℕ} 256 0;
+        deep = ap length (b .depths-are) ∙ length-replicate {A = ℕ} mostLines 0;
         shallow = subst Shallow (sym (b .depths-are)) zeros;
         paired = sym (ap length (limits-taken (length ts) D (few .few)) ∙ length-replicate (length ts) D);
         few = few .few;
@@ -150,7 +151,7 @@ module _ (n : ℕ) (ts : List ℕ) (D : ℕ) (a : Accepted n ts D) (s : State) (
         alive = rw (base-is, rows-are) (first-alive n D (few .inputs) (a .depth) ts R);
         near = rw (base-is, rows-are) (omega (arith, sum-small));
         gaps-are =
-            b .gaps-are ∙ ap (padded 32 0) (first-distances n D (few .inputs) (a .depth) ts R ∙ (λ i. distances (sym base-is i) (sym rows-are i)));
+            b .gaps-are ∙ ap (padded mostOutputs 0) (first-distances n D (few .inputs) (a .depth) ts R ∙ (λ i. distances (sym base-is i) (sym rows-are i)));
       }
 
   pub stands : SoFar (base s) ts limits s
@@ -164,32 +165,25 @@ module _ (n : ℕ) (ts : List ℕ) (D : ℕ) (a : Accepted n ts D) (s : State) (
         upto = omega (arith, b .none);
         written = ap (λ (k : ℕ). greedy k (base s) (rowsOf ts limits)) (sym z);
         ran = ap (λ (k : ℕ). run (base s) (greedy k (base s) (rowsOf ts limits))) (sym z);
-        lefts = b .lefts ∙ sym (padded-none 248 0);
-        rights = b .rights ∙ sym (padded-none 248 0);
+        lefts = b .lefts ∙ sym (padded-none mostGates 0);
+        rights = b .rights ∙ sym (padded-none mostGates 0);
         few-inputs = omega (arith, ap length base-is, inputs-length n, few .inputs);
         long = omega (arith, b .long, b .none, ap length base-is, inputs-length n);
       }
 
 -- ---- the circuit as the code holds it
-module _ (cap : ℕ) where
-  kinds-zero : (gs : List Xor) → length gs ≤ cap → replicate cap 0 ≡ map (λ (q : Gate). q .kind) (map xorGate gs) ++ replicate (cap - length (map xorGate gs)) 0
-  kinds-zero gs h =
-      let e : cap ≡ length gs + (cap - length (map xorGate gs)) = omega (arith, length-map gs xorGate) in
-      ap (λ (x : ℕ). replicate x 0) e
-      ∙ sym (replicate-append-replicate (length gs) (cap - length (map xorGate gs)) 0)
-      ∙ ap (λ (l : List ℕ). l ++ replicate (cap - length (map xorGate gs)) 0) (zeros gs)
-    where
-      zeros : (gs : List Xor) → replicate (length gs) 0 ≡ map (λ (q : Gate). q .kind) (map xorGate gs)
-      zeros [] = refl
-      zeros (g ∷ gs) = ap (λ (l : List ℕ). 0 ∷ l) (zeros gs)
+-- a field of the gates of some XORs, one by one
+fields : (f : Xor → ℕ) (f′ : Gate → ℕ) → ((g : Xor) → f g ≡ f′ (xorGate g)) → (gs : List Xor) → map f gs ≡ map f′ (map xorGate gs)
+fields f f′ e [] = refl
+fields f f′ e (g ∷ gs) = ap₂ (λ (x : ℕ) (l : List ℕ). x ∷ l) (e g) (fields f f′ e gs)
 
-  column : (f : Xor → ℕ) (f′ : Gate → ℕ) → ((g : Xor) → f g ≡ f′ (xorGate g)) → (gs : List Xor)
-      → padded cap 0 (map f gs) ≡ map f′ (map xorGate gs) ++ replicate (cap - length (map xorGate gs)) 0
-  column f f′ e gs = ap₂ (λ (l : List ℕ) (k : ℕ). l ++ replicate (cap - k) 0) (same gs) (length-map gs f ∙ sym (length-map gs xorGate))
-    where
-      same : (gs : List Xor) → map f gs ≡ map f′ (map xorGate gs)
-      same [] = refl
-      same (g ∷ gs) = ap₂ (λ (x : ℕ) (l : List ℕ). x ∷ l) (e g) (same gs)
+-- their kinds are all 0
+kinds-zero : (gs : List Xor) → length gs ≤ mostGates → replicate mostGates 0 ≡ column (λ (q : Gate). q .kind) (map xorGate gs)
+kinds-zero gs h = sym (padded-same mostGates 0 (length gs) h) ∙ ap (padded mostGates 0) (zeros gs)
+  where
+    zeros : (gs : List Xor) → replicate (length gs) 0 ≡ map (λ (q : Gate). q .kind) (map xorGate gs)
+    zeros [] = refl
+    zeros (g ∷ gs) = ap (λ (l : List ℕ). 0 ∷ l) (zeros gs)
 
 pub greedy-few : (f : ℕ) (ls : List Line) (rs : List Row) → length (greedy f ls rs) ≤ f
 greedy-few zero ls rs = omega arith
@@ -203,17 +197,17 @@ pub taken-few : (ls : List Line) (rs : List Row) → length (taken ls rs) ≤ 22
 unfolding taken
 taken-few ls rs = greedy-few 224 ls rs
 
-pub circuit-held : (n : ℕ) (ts : List ℕ) (D : ℕ) (s : State) (outs : List ℕ) → length ts ≤ 32 → Grown (inputs n) (within D ts) s
-    → outs ≡ padded 32 0 (map (lowest (base s)) (within D ts))
-    → record { n = n; m = length ts; g = s .count; kinds = replicate 248 0; left = s .left; right = s .right; outputs = outs } ≡ held (built n ts D)
+pub circuit-held : (n : ℕ) (ts : List ℕ) (D : ℕ) (s : State) (outs : List ℕ) → length ts ≤ mostOutputs → Grown (inputs n) (within D ts) s
+    → outs ≡ padded mostOutputs 0 (map (lowest (base s)) (within D ts))
+    → record { n = n; m = length ts; g = s .count; kinds = replicate mostGates 0; left = s .left; right = s .right; outputs = outs } ≡ held (built n ts D)
 unfolding built greedyCircuit
 circuit-held n ts D s outs h g e =
     let gs = taken (inputs n) (within D ts) in
     let few = taken-few (inputs n) (within D ts) in
-    let k = kinds-zero 248 gs (omega arith) in
-    let l = g .lefts ∙ column 248 (λ (q : Xor). q .a) (λ (q : Gate). q .left) (λ q. refl) gs in
-    let r = g .rights ∙ column 248 (λ (q : Xor). q .b) (λ (q : Gate). q .right) (λ q. refl) gs in
-    let o = e ∙ ap (λ (x : List Line). padded 32 0 (map (lowest x) (within D ts))) (g .lines-are) in
+    let k = kinds-zero gs (omega arith) in
+    let l = g .lefts ∙ ap (padded mostGates 0) (fields (λ (q : Xor). q .a) (λ (q : Gate). q .left) (λ q. refl) gs) in
+    let r = g .rights ∙ ap (padded mostGates 0) (fields (λ (q : Xor). q .b) (λ (q : Gate). q .right) (λ q. refl) gs) in
+    let o = e ∙ ap (λ (x : List Line). padded mostOutputs 0 (map (lowest x) (within D ts))) (g .lines-are) in
     let c = g .counted ∙ sym (length-map gs xorGate) in
     let m : length ts ≡ length (map (lowest (run (inputs n) gs)) (within D ts)) = sym (length-map (within D ts) (lowest (run (inputs n) gs)) ∙ length-map ts (λ (t : ℕ). row t D)) in
     λ i. record { n = n; m = m i; g = c i; kinds = k i; left = l i; right = r i; outputs = o i }

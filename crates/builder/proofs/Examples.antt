@@ -3,8 +3,9 @@ use mathlib.Core.List.{[], _∷_}
 use mathlib.Core.Path.{_≡_, refl}
 use Rattle.circuit.specs.declared.Answer.the-variants.{Done, Refused}
 use Rattle.circuit.specs.declared.Refusal.the-variants.{TooShallow}
-use Rattle.circuit.specs.Stored.{stored, gateBytes, outBytes}
-use Rattle.circuit.specs.Reading.{shaped}
+use Rattle.circuit.specs.Rules.{shaped}
+use Rattle.circuit.specs.Lines.{listing}
+use Rattle.stored.specs.Stored.{stored, gateBytes, outBytes}
 use Rattle.distance.specs.Base.{xor}
 use Rattle.builder.specs.Rule.{reach, taken, xorGate, greedyCircuit}
 use Rattle.builder.specs.Call.{built, refusal}
@@ -14,7 +15,7 @@ pub k1 : stored (built 3 (3 ∷ 7 ∷ 6 ∷ []) 2)
 unfolding reach taken greedyCircuit built gateBytes outBytes
 k1 = refl
 
-pub k2 : built 3 (3 ∷ 7 ∷ 6 ∷ []) 3 ≡ record { inputs = 3; gates = xorGate (xor 0 1) ∷ xorGate (xor 2 3) ∷ xorGate (xor 0 4) ∷ []; outs = 3 ∷ 4 ∷ 5 ∷ [] }
+pub k2 : built 3 (3 ∷ 7 ∷ 6 ∷ []) 3 ≡ listing 3 (xorGate (xor 0 1) ∷ xorGate (xor 2 3) ∷ xorGate (xor 0 4) ∷ []) (3 ∷ 4 ∷ 5 ∷ [])
 unfolding reach taken greedyCircuit built
 k2 = refl
 
@@ -22,7 +23,7 @@ pub k3 : refusal 3 (3 ∷ 7 ∷ 6 ∷ []) 1 ≡ Refused TooShallow
 unfolding refusal shaped
 k3 = refl
 
-pub k4 : built 4 (7 ∷ 11 ∷ []) 2 ≡ record { inputs = 4; gates = xorGate (xor 0 1) ∷ xorGate (xor 2 4) ∷ xorGate (xor 3 4) ∷ []; outs = 5 ∷ 6 ∷ [] }
+pub k4 : built 4 (7 ∷ 11 ∷ []) 2 ≡ listing 4 (xorGate (xor 0 1) ∷ xorGate (xor 2 4) ∷ xorGate (xor 3 4) ∷ []) (5 ∷ 6 ∷ [])
 unfolding reach taken greedyCircuit built
 k4 = refl
 

@@ -7,6 +7,7 @@ use native.Mathlib.Omega.{arith}
 use lib.ListN.{length, getD, take, drop, set, length-append, drop-of-length-le}
 use lib.Seq.{length-take-le, take-length}
 use Rattle.circuit.specs.Lines.{greatest, padded}
+use Rattle.circuit.specs.Sizes.{mostOutputs}
 use Rattle.circuit.proofs.Padding.{padded-none, padded-put}
 use Rattle.distance.specs.Base.{Line, Xor, made, Small}
 use Rattle.distance.specs.Table.{costAt}
@@ -131,11 +132,11 @@ pub record Aiming (ts limits gaps places rooms lows : List ℕ) (k floor i : ℕ
   pub small : floor ≤ 8 * i
   pub count : k ≤ i
 
-pub aiming-start : (ts limits gaps : List ℕ) → Aiming ts limits gaps (lib.ListN.replicate 32 0) (lib.ListN.replicate 32 0) (lib.ListN.replicate 32 0) 0 0 0
+pub aiming-start : (ts limits gaps : List ℕ) → Aiming ts limits gaps (lib.ListN.replicate mostOutputs 0) (lib.ListN.replicate mostOutputs 0) (lib.ListN.replicate mostOutputs 0) 0 0 0
 aiming-start ts limits gaps =
     record {
       upto = omega arith;
-      so-far = record { places-are = sym (padded-none 32 0); rooms-are = sym (padded-none 32 0); lows-are = sym (padded-none 32 0); count-is = refl; floor-is = refl };
+      so-far = record { places-are = sym (padded-none mostOutputs 0); rooms-are = sym (padded-none mostOutputs 0); lows-are = sym (padded-none mostOutputs 0); count-is = refl; floor-is = refl };
       small = omega arith;
       count = omega arith;
     }
@@ -144,7 +145,7 @@ sum-snoc : (xs : List ℕ) (x : ℕ) → sum (xs ++ (x ∷ [])) ≡ sum xs + x
 sum-snoc [] x = omega arith
 sum-snoc (y ∷ xs) x = omega (arith, sum-snoc xs x)
 
-module _ (ts limits gaps places rooms lows : List ℕ) (k floor i : ℕ) (e : length ts ≡ length limits) (e′ : length ts ≡ length gaps) (few : length ts ≤ 32)
+module _ (ts limits gaps places rooms lows : List ℕ) (k floor i : ℕ) (e : length ts ≡ length limits) (e′ : length ts ≡ length gaps) (few : length ts ≤ mostOutputs)
     (p : i < length ts) (w : Aiming ts limits gaps places rooms lows k floor i) where
   pub aiming-made : getD gaps i 0 ≡ 0 → Aiming ts limits gaps places rooms lows k floor (i + 1)
   aiming-made z =
@@ -154,9 +155,9 @@ module _ (ts limits gaps places rooms lows : List ℕ) (k floor i : ℕ) (e : le
         upto = omega arith;
         so-far =
             record {
-              places-are = a .places-are ∙ ap (padded 32 0) (sym (row-made placeOf gaps ts i (sym e′) (omega arith) z));
-              rooms-are = a .rooms-are ∙ ap (padded 32 0) (sym (row-made roomOf gaps limits i (omega arith) (omega arith) z));
-              lows-are = a .lows-are ∙ ap (padded 32 0) (sym lows-same);
+              places-are = a .places-are ∙ ap (padded mostOutputs 0) (sym (row-made placeOf gaps ts i (sym e′) (omega arith) z));
+              rooms-are = a .rooms-are ∙ ap (padded mostOutputs 0) (sym (row-made roomOf gaps limits i (omega arith) (omega arith) z));
+              lows-are = a .lows-are ∙ ap (padded mostOutputs 0) (sym lows-same);
               count-is = a .count-is ∙ ap length (sym lows-same);
               floor-is = a .floor-is ∙ ap sum (sym lows-same);
             };
@@ -174,23 +175,23 @@ module _ (ts limits gaps places rooms lows : List ℕ) (k floor i : ℕ) (e : le
       let kp : k ≡ length (toGo placeOf (take i gaps) (take i ts)) = a .count-is ∙ to-go-length lowOf placeOf (take i gaps) (take i ts) (take i ts) (omega arith) (omega arith) in
       let kr : k ≡ length (toGo roomOf (take i gaps) (take i limits)) = a .count-is ∙ to-go-length lowOf roomOf (take i gaps) (take i ts) (take i limits) (omega arith) (omega arith) in
       let low-next = row-goal lowOf gaps ts i (sym e′) (omega arith) g z in
-      let below : k < 32 = omega (arith, w .count) in
+      let below : k < mostOutputs = omega (arith, w .count) in
       record {
         upto = omega arith;
         so-far =
             record {
               places-are =
                   ap (λ (l : List ℕ). set l k (g * 256 + getD ts i 0)) (a .places-are)
-                  ∙ padded-put 32 0 (toGo placeOf (take i gaps) (take i ts)) k (g * 256 + getD ts i 0) kp below
-                  ∙ ap (padded 32 0) (sym (row-goal placeOf gaps ts i (sym e′) (omega arith) g z));
+                  ∙ padded-put mostOutputs 0 (toGo placeOf (take i gaps) (take i ts)) k (g * 256 + getD ts i 0) kp below
+                  ∙ ap (padded mostOutputs 0) (sym (row-goal placeOf gaps ts i (sym e′) (omega arith) g z));
               rooms-are =
                   ap₂ (λ (l : List ℕ) (x : ℕ). set l k x) (a .rooms-are) er
-                  ∙ padded-put 32 0 (toGo roomOf (take i gaps) (take i limits)) k (costAt (getD limits i 0)) kr below
-                  ∙ ap (padded 32 0) (sym (row-goal roomOf gaps limits i (omega arith) (omega arith) g z));
+                  ∙ padded-put mostOutputs 0 (toGo roomOf (take i gaps) (take i limits)) k (costAt (getD limits i 0)) kr below
+                  ∙ ap (padded mostOutputs 0) (sym (row-goal roomOf gaps limits i (omega arith) (omega arith) g z));
               lows-are =
                   ap (λ (l : List ℕ). set l k g) (a .lows-are)
-                  ∙ padded-put 32 0 (toGo lowOf (take i gaps) (take i ts)) k g (a .count-is) below
-                  ∙ ap (padded 32 0) (sym low-next);
+                  ∙ padded-put mostOutputs 0 (toGo lowOf (take i gaps) (take i ts)) k g (a .count-is) below
+                  ∙ ap (padded mostOutputs 0) (sym low-next);
               count-is = omega (arith, a .count-is, ap length low-next, length-append (toGo lowOf (take i gaps) (take i ts)) (g ∷ []));
               floor-is = omega (arith, a .floor-is, ap sum low-next, sum-snoc (toGo lowOf (take i gaps) (take i ts)) g);
             };
@@ -207,15 +208,15 @@ aiming-end ts limits gaps places rooms lows k floor i e e′ p w =
     let c = ap (λ (x : ℕ). take x gaps) (z ∙ e′) ∙ take-length gaps in
     let s = w .so-far in
     record {
-      places-are = s .places-are ∙ ap₂ (λ (x y : List ℕ). padded 32 0 (toGo placeOf x y)) c a;
-      rooms-are = s .rooms-are ∙ ap₂ (λ (x y : List ℕ). padded 32 0 (toGo roomOf x y)) c b;
-      lows-are = s .lows-are ∙ ap₂ (λ (x y : List ℕ). padded 32 0 (toGo lowOf x y)) c a;
+      places-are = s .places-are ∙ ap₂ (λ (x y : List ℕ). padded mostOutputs 0 (toGo placeOf x y)) c a;
+      rooms-are = s .rooms-are ∙ ap₂ (λ (x y : List ℕ). padded mostOutputs 0 (toGo roomOf x y)) c b;
+      lows-are = s .lows-are ∙ ap₂ (λ (x y : List ℕ). padded mostOutputs 0 (toGo lowOf x y)) c a;
       count-is = s .count-is ∙ ap₂ (λ (x y : List ℕ). length (toGo lowOf x y)) c a;
       floor-is = s .floor-is ∙ ap₂ (λ (x y : List ℕ). sum (toGo lowOf x y)) c a;
     }
 
 -- they are goals
-pub are-goals : (ts limits gaps : List ℕ) → length ts ≡ length limits → length ts ≡ length gaps → length ts ≤ 32 → ((i : ℕ) → getD gaps i 0 < 8) → ((i : ℕ) → getD ts i 0 < 256)
+pub are-goals : (ts limits gaps : List ℕ) → length ts ≡ length limits → length ts ≡ length gaps → length ts ≤ mostOutputs → ((i : ℕ) → getD gaps i 0 < 8) → ((i : ℕ) → getD ts i 0 < 256)
     → Goals (toGo placeOf gaps ts) (toGo roomOf gaps limits) (toGo lowOf gaps ts)
 are-goals ts limits gaps e e′ few near byte =
     record {

@@ -4,7 +4,6 @@ use mathlib.Core.List.{List}
 use mathlib.Core.Path.{_≡_, refl, sym, ap, _∙_}
 use Prim.Native.Nat.{ℕ, _≤_}
 use native.Mathlib.Omega.{arith}
-use borrow.Author.Tests.{le-leb}
 use lib.Dec.{leb}
 use lib.ListN.{length, length-map}
 use Rattle.circuit.specs.declared.Answer.{Answer}
@@ -12,18 +11,20 @@ use Rattle.circuit.specs.declared.Answer.the-variants.{Done, Refused}
 use Rattle.circuit.specs.declared.Circuit.{Circuit}
 use Rattle.circuit.specs.declared.Refusal.{Refusal}
 use Rattle.circuit.specs.declared.Refusal.the-variants.{Shape, NoRoom}
-use Rattle.circuit.specs.declared.Writing.{Writing}
-use Rattle.circuit.specs.declared.Writing.the-variants.{Written, NotWritten}
 use Rattle.circuit.specs.Lines.{Listing}
-use Rattle.circuit.specs.Stored.{stored, held, listed}
-use Rattle.circuit.specs.Reading.{shaped}
-use Rattle.circuit.specs.Writing.{writeAnswer, roomAfter, Wrote, intoRoom}
-use Rattle.circuit.proofs.Back.{listed-held}
+use Rattle.circuit.specs.Structs.{held, listed}
+use Rattle.circuit.specs.Rules.{shaped, listingAnswer}
+use Rattle.circuit.proofs.Listed.{listed-held}
+use Rattle.circuit.proofs.RuleLaws.{circuit-fits}
+use Rattle.circuit.proofs.Shapes.{shape-is, shape-true}
+use Rattle.stored.specs.declared.Writing.{Writing}
+use Rattle.stored.specs.declared.Writing.the-variants.{Written, NotWritten}
+use Rattle.stored.specs.Stored.{stored}
+use Rattle.stored.specs.Writing.{writeAnswer, roomAfter, Wrote, intoRoom}
 use Rattle.distance.specs.Base.{inputs}
 use Rattle.builder.specs.declared.Planned.{Planned}
 use Rattle.builder.specs.Rule.{row, taken, xorGate, greedyCircuit}
 use Rattle.builder.specs.Call.{within, built, refusal, planned, planOf, buildAnswer, Builds, BuildsNumbered}
-use Rattle.builder.proofs.Refusals.{ranged, accepted}
 use Rattle.builder.proofs.Begin.{taken-few}
 
 -- ---- the circuit built has room in a stored form
@@ -43,18 +44,17 @@ unfolding built greedyCircuit
 built-inputs n ts D = refl
 
 pub built-shaped : (n : ℕ) (ts : List ℕ) (D : ℕ) → shaped n (length ts) 0 ≡ true → shaped (built n ts D .inputs) (length (built n ts D .outs)) (length (built n ts D .gates)) ≡ true
-unfolding shaped
 built-shaped n ts D a =
-    let r = ranged n (length ts) 0 a in
+    let r = shape-is n (length ts) 0 a in
     let i = built-inputs n ts D in
     let o = built-outs n ts D in
-    rw (
-      le-leb 1 (built n ts D .inputs) (omega (arith, r .some-inputs)),
-      le-leb (built n ts D .inputs) 8 (omega (arith, r .inputs)),
-      le-leb 1 (length (built n ts D .outs)) (omega (arith, r .some-rows)),
-      le-leb (length (built n ts D .outs)) 32 (omega (arith, r .few)),
-      le-leb (length (built n ts D .gates)) 248 (omega (arith, built-few n ts D)),
-    )
+    shape-true _ _ _ (record {
+      n-least = omega (arith, r .n-least);
+      n-most = omega (arith, r .n-most);
+      m-least = omega (arith, r .m-least);
+      m-most = omega (arith, r .m-most);
+      g-most = omega (arith, built-few n ts D);
+    })
 
 -- ---- what `plan` gives
 planned-answer : (a : Answer) (c : Listing) → planned a c .answer ≡ a
@@ -79,12 +79,13 @@ module _ (n : ℕ) (ts : List ℕ) (D : ℕ) (room : List ℕ) where
   unfolding buildAnswer
   builds-refused w e = same-room (NotWritten w) (ap (λ (a : Answer). intoRoom a (length (stored (built n ts D))) (length room)) e) room refl
 
-  pub builds-done : (c : Circuit) (r : Writing) (out : List ℕ) → refusal n ts D ≡ Done → c ≡ held (built n ts D) → Wrote c room r out → Builds n ts D room r out
+  -- the circuit built is sound, and so its struct stands for it
+  pub builds-done : (c : Circuit) (r : Writing) (out : List ℕ) → refusal n ts D ≡ Done → listingAnswer true (built n ts D) ≡ Done → c ≡ held (built n ts D) → Wrote c room r out → Builds n ts D room r out
   unfolding buildAnswer writeAnswer
-  builds-done c r out e k w =
+  builds-done c r out e sound k w =
       let l = built n ts D in
-      let s = ap (λ (x : Circuit). stored (listed x)) k ∙ ap stored (listed-held l) in
-      let h : shaped (c .n) (c .m) (c .g) ≡ true = ap (λ (x : Circuit). shaped (x .n) (x .m) (x .g)) k ∙ built-shaped n ts D (accepted n ts D e .shape) in
+      let s = ap (λ (x : Circuit). stored (listed x)) k ∙ ap stored (listed-held true l sound) in
+      let h : shaped (c .n) (c .m) (c .g) ≡ true = ap (λ (x : Circuit). shaped (x .n) (x .m) (x .g)) k ∙ circuit-fits true l sound .shaped-true in
       let a : writeAnswer c (length room) ≡ buildAnswer n ts D (length room) =
       (λ i. cond (h i) (cond (leb (length (s i)) (length room)) (Written (length (s i))) (NotWritten NoRoom)) (NotWritten Shape))
       ∙ ap (λ (x : Answer). intoRoom x (length (stored l)) (length room)) (sym e) in

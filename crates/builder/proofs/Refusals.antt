@@ -13,8 +13,8 @@ use lib.Pow.{high, low, pow-pos}
 use Rattle.circuit.specs.declared.Answer.the-variants.{Done, Refused}
 use Rattle.circuit.specs.declared.Refusal.the-variants.{Shape, Target, TooDeep, TooShallow}
 use Rattle.circuit.specs.Lines.{anyOf}
-use Rattle.circuit.specs.Reading.{shaped}
-use Rattle.circuit.proofs.Accept.{past, both}
+use Rattle.circuit.specs.Rules.{shaped}
+use Rattle.circuit.proofs.Shapes.{past, shape-is}
 use Rattle.distance.specs.Base.{weight}
 use Rattle.builder.specs.Call.{badRow, tooHeavy, refusal}
 use Rattle.builder.specs.Kept.{Fit}
@@ -139,28 +139,12 @@ module _ (n : ℕ) (ts : List ℕ) (D : ℕ) where
         unfolding refusal
         refused-not d = rw (a, b, le-leb D 15 c, d)
 
--- n and the number of rows are in their ranges
-pub record Ranged (n m : ℕ) : Type 0 where
-  pub some-inputs : 1 ≤ n
-  pub inputs : n ≤ 8
-  pub some-rows : 1 ≤ m
-  pub few : m ≤ 32
-
-pub ranged : (n m g : ℕ) → shaped n m g ≡ true → Ranged n m
-unfolding shaped
-ranged n m g e =
-    let a = both (leb 1 n) e in
-    let b = both (leb n 8) (a .1) in
-    let c = both (leb 1 m) (b .1) in
-    let d = both (leb m 32) (c .1) in
-    record { some-inputs = leb-true 1 n (a .0); inputs = leb-true n 8 (b .0); some-rows = leb-true 1 m (c .0); few = leb-true m 32 (d .0) }
-
 pub fit : (n : ℕ) (ts : List ℕ) → shaped n (length ts) 0 ≡ true → anyOf (map (badRow n) ts) ≡ false → Fit n ts
 fit n ts a b =
-    let r = ranged n (length ts) 0 a in
+    let r = shape-is n (length ts) 0 a in
     record {
-      inputs = r .inputs;
-      few = r .few;
+      inputs = r .n-most;
+      few = r .m-most;
       some = λ i h. good-some n (getD ts i 0) (any-none (badRow n) ts b i h);
       below = below-all n ts (λ i h. good-below n (getD ts i 0) (any-none (badRow n) ts b i h));
     }

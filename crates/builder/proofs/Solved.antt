@@ -9,8 +9,11 @@ use lib.Dec.{leb, eqb}
 use lib.ListN.{length, getD, length-append, length-map}
 use Rattle.circuit.specs.declared.Answer.the-variants.{Done, Refused}
 use Rattle.circuit.specs.declared.Refusal.the-variants.{TooShallow}
+use Rattle.circuit.specs.Gate.{rowOn}
 use Rattle.circuit.specs.Lines.{gateAt, depthOf, outputOn, greatest, depthStep, truthStep, anyOf, lines, values}
-use Rattle.circuit.specs.Reading.{shaped, gateAnswer, secondFits, outAnswer, gatesAnswer, outsAnswer, listingAnswer}
+use Rattle.circuit.specs.Rules.{shaped, gateAnswer, outAnswer, gatesAnswer, outsAnswer, listingAnswer}
+use Rattle.circuit.proofs.ParityLaws.{row-none}
+use Rattle.circuit.proofs.RuleLaws.{two-fit}
 use Rattle.distance.specs.Base.{Line, line, none, Xor, made, run, Reads, Makes, Small, inputs, weight}
 use Rattle.distance.specs.Distance.{gates}
 use Rattle.distance.proofs.Tests.{both-cases}
@@ -18,7 +21,7 @@ use Rattle.distance.proofs.Weight.{small-inputs}
 use Rattle.distance.proofs.Weight as weights
 use Rattle.builder.specs.Rule.{Row, row, reach, count, away, distances, sum, deepest, makes, taken, lowest, lowestFrom, xorGate, greedyCircuit}
 use Rattle.builder.specs.Call.{within, built, badRow, tooHeavy, refusal}
-use Rattle.builder.specs.Matrix.{rowOn, Computes}
+use Rattle.builder.specs.Matrix.{Computes}
 use Rattle.builder.specs.Kept.{SoundRow, SoundRows, Alive, Fit}
 use Rattle.builder.proofs.Reach.{reach-fewest}
 use Rattle.builder.proofs.Ends.{Within, within-snoc, Reached, enough}
@@ -26,7 +29,7 @@ use Rattle.builder.proofs.Lists.{map-at}
 use Rattle.builder.proofs.Refusals.{Accepted, fit, any-some, refused-shallow, refused-not}
 use Rattle.builder.proofs.Begin.{rights, first-alive, first-sound, first-sum, first-little, inputs-length}
 use Rattle.builder.proofs.Promise.{built-shaped, built-gates}
-use Rattle.builder.proofs.Values.{lines-whole, depth-step, input-depths, value-step, input-values, row-none}
+use Rattle.builder.proofs.Values.{lines-whole, depth-step, input-depths, value-step, input-values}
 
 -- ---- a line that makes a row, and the lowest such line
 pub record MadeAt (ls : List Line) (r : Row) (at : ℕ) : Type 0 where
@@ -183,7 +186,7 @@ module _ (n : ℕ) (ts : List ℕ) (D : ℕ) (a : Accepted n ts D) where
       let r = row (getD ts i 0) D in
       let e : values x n (gateAt (greedyCircuit n (inputs n) rs)) (length (map xorGate gs)) ≡ map of all =
       ap (λ (l : List ℕ). lines truthStep 0 l (gateAt (greedyCircuit n (inputs n) rs)) (length (map xorGate gs))) (input-values n n x (omega arith))
-      ∙ lines-whole (λ (l : Line). rowOn n (l .mask) x) truthStep 0 (row-none n x) (value-step n x) (inputs n) gs in
+      ∙ lines-whole (λ (l : Line). rowOn n (l .mask) x) truthStep 0 (sym (row-none n x)) (value-step n x) (inputs n) gs in
       let o : getD (map (lowest all) rs) i 0 ≡ lowest all r =
       map-at (lowest all) rs (row 0 0) i (omega (arith, length-map ts (λ (t : ℕ). row t D))) ∙ ap (lowest all) (within-row D ts i h) in
       ap₂ (λ (l : List ℕ) (k : ℕ). getD l k 0) e o
@@ -201,11 +204,11 @@ module _ (n : ℕ) (ts : List ℕ) (D : ℕ) (a : Accepted n ts D) where
 
   -- ---- it is a circuit, with XOR gates only
   gates-fine : (ls : List Line) (hs : List Xor) → Reads ls hs → gatesAnswer true (length ls) (map xorGate hs) ≡ Done
-  unfolding gatesAnswer gateAnswer secondFits
+  unfolding gatesAnswer gateAnswer
   gates-fine ls [] w = refl
   gates-fine ls (g ∷ hs) w =
       let l : suc (length ls) ≡ length (ls ++ (made ls g ∷ [])) = omega (arith, length-append ls (made ls g ∷ [])) in
-      rw (lt-ltb (g .a) (length ls) (w .0), lt-ltb (g .b) (length ls) (w .1), l) (gates-fine (ls ++ (made ls g ∷ [])) hs (w .2))
+      rw (two-fit (length ls) (xorGate g) (omega arith), lt-ltb (g .a) (length ls) (w .0), lt-ltb (g .b) (length ls) (w .1), l) (gates-fine (ls ++ (made ls g ∷ [])) hs (w .2))
 
   outs-fine : (k : ℕ) (os : List ℕ) → ((i : ℕ) → i < length os → getD os i 0 < k) → outsAnswer k os ≡ Done
   unfolding outsAnswer outAnswer

@@ -11,7 +11,8 @@ use lib.Dec.{eqb}
 use lib.ListN.{length, getD, take, drop, set, length-set, length-map, length-append}
 use lib.Seq.{length-take-le, take-suc-set, getD-take}
 use Rattle.circuit.specs.Lines.{greatest, padded}
-use Rattle.circuit.proofs.Back.{map-snoc}
+use Rattle.circuit.specs.Sizes.{mostOutputs, mostGates, mostLines}
+use Rattle.circuit.proofs.Upto.{map-snoc}
 use Rattle.circuit.proofs.Depths.{deeper-is}
 use Rattle.circuit.proofs.Padding.{padded-length, padded-take, padded-put}
 use Rattle.distance.specs.Base.{Line, line, baseOf, none, Xor, xor, made, run, Small, Shallow}
@@ -56,7 +57,7 @@ low-le r i (l ∷ ls) = go (makes r l) (low-le r (suc i) ls)
     go true p = omega arith
     go false p = omega arith
 
-pub lowest-byte : (ms ds : List ℕ) (r : Row) → length ms ≡ length ds → length ms ≤ 256 → lowest (baseOf ms ds) r < 256
+pub lowest-byte : (ms ds : List ℕ) (r : Row) → length ms ≡ length ds → length ms ≤ mostLines → lowest (baseOf ms ds) r < 256
 lowest-byte ms ds r l h = omega (arith, low-le r 0 (baseOf ms ds), lines-length ms ds l)
 
 pub outs-at : (ms ds ts limits : List ℕ) (i : ℕ) → length ts ≡ length limits → i < length ts
@@ -133,10 +134,10 @@ module _ (ts limits : List ℕ) (s : State) (p : Poised ts limits s) where
   gaps-long = sym (length-map rs (away (base s)) ∙ rows-length ts limits (p .paired))
 
   pub gaps-taken : take (length ts) (s .gaps) ≡ distances (base s) rs
-  gaps-taken = ap (take (length ts)) (p .gaps-are) ∙ padded-take 32 0 (distances (base s) rs) (length ts) gaps-long
+  gaps-taken = ap (take (length ts)) (p .gaps-are) ∙ padded-take mostOutputs 0 (distances (base s) rs) (length ts) gaps-long
 
-  pub gaps-wide : length (s .gaps) ≡ 32
-  gaps-wide = ap length (p .gaps-are) ∙ padded-length 32 0 (distances (base s) rs) (omega (arith, gaps-long, p .few))
+  pub gaps-wide : length (s .gaps) ≡ mostOutputs
+  gaps-wide = ap length (p .gaps-are) ∙ padded-length mostOutputs 0 (distances (base s) rs) (omega (arith, gaps-long, p .few))
 
   pub choosing : (h : List ℕ) → Tabled ts limits s h → Choosing ms ds ts limits (take (length ts) (s .gaps)) h
   unfolding base
@@ -215,11 +216,11 @@ module _ (ts limits : List ℕ) (s : State) (p : Poised ts limits s) where
       new = base s ++ (made (base s) (xor i j) ∷ [])
 
       -- the distances from the new base
-      module _ (bytes : (k : ℕ) → getD ts k 0 < 256) (gaps′ : List ℕ) (eg : gaps′ ≡ padded 32 0 (nextGaps h m c (take (length ts) (s .gaps)) ts limits)) where
-        gaps-next : gaps′ ≡ padded 32 0 (distances new rs)
+      module _ (bytes : (k : ℕ) → getD ts k 0 < 256) (gaps′ : List ℕ) (eg : gaps′ ≡ padded mostOutputs 0 (nextGaps h m c (take (length ts) (s .gaps)) ts limits)) where
+        gaps-next : gaps′ ≡ padded mostOutputs 0 (distances new rs)
         gaps-next =
             eg
-            ∙ ap (padded 32 0)
+            ∙ ap (padded mostOutputs 0)
             ((λ u. nextGaps h (sym mask-is u) (cost-pow u) (gaps-taken u) ts limits)
             ∙ next-distances h (base s) (greatest (distances (base s) rs)) (xor i j) t (p .small) (less .one) (less .two) mask-byte ts limits (p .paired) (p .sound) bytes (omega arith))
 
@@ -227,10 +228,10 @@ module _ (ts limits : List ℕ) (s : State) (p : Poised ts limits s) where
         next-long = sym (length-map rs (away new) ∙ rows-length ts limits (p .paired))
 
         taken-next : take (length ts) gaps′ ≡ distances new rs
-        taken-next = ap (take (length ts)) gaps-next ∙ padded-take 32 0 (distances new rs) (length ts) next-long
+        taken-next = ap (take (length ts)) gaps-next ∙ padded-take mostOutputs 0 (distances new rs) (length ts) next-long
 
-        pub next-wide : length gaps′ ≡ 32
-        next-wide = ap length gaps-next ∙ padded-length 32 0 (distances new rs) (omega (arith, next-long, p .few))
+        pub next-wide : length gaps′ ≡ mostOutputs
+        next-wide = ap length gaps-next ∙ padded-length mostOutputs 0 (distances new rs) (omega (arith, next-long, p .few))
 
         -- no distance grew
         top-falls : greatest (distances new rs) ≤ greatest (distances (base s) rs)
@@ -274,7 +275,7 @@ module _ (ts limits : List ℕ) (s : State) (p : Poised ts limits s) where
                 wide = length-set (s .masks) (s .len) m ∙ p .wide;
                 deep = length-set (s .depths) (s .len) w ∙ p .deep;
                 shallow = shallow-set (s .depths) (s .len) w depth-small (p .shallow);
-                gaps-are = gaps-next ∙ ap (λ (l : List Line). padded 32 0 (distances l rs)) (sym grown);
+                gaps-are = gaps-next ∙ ap (λ (l : List Line). padded mostOutputs 0 (distances l rs)) (sym grown);
                 tabled =
                     subst (λ (l : List Line). Held g l (greatest (distances l rs))) (sym grown)
                     (subst (λ (l : Line). Held g (base s ++ (l ∷ [])) (greatest (distances (base s ++ (l ∷ [])) rs))) (sym (made-is ∙ ap (line m) (sym ew)))
@@ -283,7 +284,7 @@ module _ (ts limits : List ℕ) (s : State) (p : Poised ts limits s) where
               }
 
     -- a state that stepped is poised again
-    pub poised-next : (r : State) (g : List ℕ) → s .count < 224 → s .len + 1 < 256 → Stepped ts limits s r g i j → Poised ts limits r
+    pub poised-next : (r : State) (g : List ℕ) → s .count < 224 → s .len + 1 < mostLines → Stepped ts limits s r g i j → Poised ts limits r
     poised-next r g q len e =
         let l = sym (e .lines-are) in
         record {
@@ -316,8 +317,8 @@ module _ (first : List Line) (ts limits : List ℕ) (s : State) (z : SoFar first
       let t : taken first rows ≡ z .so-far = z .written ∙ ap (λ (l : List Xor). z .so-far ++ l) e ∙ append-nil (z .so-far) in
       record {
         lines-are = sym (z .ran ∙ ap (run (base s)) e);
-        lefts = z .lefts ∙ ap (λ (l : List Xor). padded 248 0 (map (λ (g : Xor). g .a) l)) (sym t);
-        rights = z .rights ∙ ap (λ (l : List Xor). padded 248 0 (map (λ (g : Xor). g .b) l)) (sym t);
+        lefts = z .lefts ∙ ap (λ (l : List Xor). padded mostGates 0 (map (λ (g : Xor). g .a) l)) (sym t);
+        rights = z .rights ∙ ap (λ (l : List Xor). padded mostGates 0 (map (λ (g : Xor). g .b) l)) (sym t);
         counted = sym (z .counted) ∙ ap length (sym t);
         within = z .poised .within;
       }
@@ -352,10 +353,10 @@ module _ (first : List Line) (ts limits : List ℕ) (s : State) (z : SoFar first
         long = omega (arith, z .long, e .long, e .counted);
       }
     where
-      put : (f : Xor → ℕ) (old new : List ℕ) (v : ℕ) → old ≡ padded 248 0 (map f (z .so-far)) → new ≡ set old (s .count) v → f (xor i j) ≡ v
-          → new ≡ padded 248 0 (map f (z .so-far ++ (xor i j ∷ [])))
+      put : (f : Xor → ℕ) (old new : List ℕ) (v : ℕ) → old ≡ padded mostGates 0 (map f (z .so-far)) → new ≡ set old (s .count) v → f (xor i j) ≡ v
+          → new ≡ padded mostGates 0 (map f (z .so-far ++ (xor i j ∷ [])))
       put f old new v a b k =
           b
           ∙ ap (λ (l : List ℕ). set l (s .count) v) a
-          ∙ padded-put 248 0 (map f (z .so-far)) (s .count) v (omega (arith, length-map (z .so-far) f, z .counted)) (omega arith)
-          ∙ ap (padded 248 0) (ap (λ (x : ℕ). map f (z .so-far) ++ (x ∷ [])) (sym k) ∙ sym (map-snoc f (z .so-far) (xor i j)))
+          ∙ padded-put mostGates 0 (map f (z .so-far)) (s .count) v (omega (arith, length-map (z .so-far) f, z .counted)) (omega arith)
+          ∙ ap (padded mostGates 0) (ap (λ (x : ℕ). map f (z .so-far) ++ (x ∷ [])) (sym k) ∙ sym (map-snoc f (z .so-far) (xor i j)))

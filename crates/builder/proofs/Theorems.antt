@@ -7,15 +7,17 @@ use Prim.Native.Nat.{ℕ, zero, suc, _-_, _≤_, _<_}
 use lib.ListN.{length, getD}
 use Rattle.circuit.specs.declared.Answer.the-variants.{Done, Refused}
 use Rattle.circuit.specs.declared.Refusal.the-variants.{TooShallow}
+use Rattle.circuit.specs.Gate.{rowOn}
 use Rattle.circuit.specs.Lines.{gateAt, noGate, depthOf, outputOn, anyOf}
-use Rattle.circuit.specs.Stored.{stored}
-use Rattle.circuit.specs.Reading.{shaped, readStored}
-use Rattle.circuit.specs.Reading.Outcome.{found}
-use Rattle.circuit.proofs.Round.{read-stored}
+use Rattle.circuit.specs.Rules.{shaped}
+use Rattle.stored.specs.Stored.{stored}
+use Rattle.stored.specs.Reading.{readStored}
+use Rattle.stored.specs.Reading.Outcome.{found}
+use Rattle.stored.proofs.Round.{read-stored}
 use Rattle.distance.specs.Base.{Line, Xor, Small, inputs, weight}
 use Rattle.builder.specs.Rule.{Row, distances, sum, nextGate, taken, xorGate, greedyCircuit}
 use Rattle.builder.specs.Call.{within, built, badRow, tooHeavy, refusal}
-use Rattle.builder.specs.Matrix.{rowOn, Computes}
+use Rattle.builder.specs.Matrix.{Computes}
 use Rattle.builder.specs.Kept.{SoundRows, Alive}
 use Rattle.builder.proofs.Refusals.{accepted}
 use Rattle.builder.proofs.Ends as ends

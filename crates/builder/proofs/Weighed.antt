@@ -7,6 +7,7 @@ use native.Mathlib.Omega.{arith}
 use lib.Bits.{bitXor, xor-lt}
 use lib.ListN.{length, getD, take}
 use Rattle.circuit.specs.Lines.{greatest}
+use Rattle.circuit.specs.Sizes.{mostOutputs}
 use Rattle.circuit.proofs.Padding.{padded-take}
 use Rattle.distance.specs.Base.{Line, baseOf, Xor, xor, made, Shallow}
 use Rattle.builder.specs.Rule.{Row, row, away, distances, sum, squares, deepest, Best, best, start, better, consider, allPairs, distancesAfter, bestPair}
@@ -122,17 +123,17 @@ module _ (ms ds ts limits gaps h : List ℕ) (z : Choosing ms ds ts limits gaps 
 
   -- the same of the goals as they stand in three arrays
   module _ (P R L : List ℕ) (k floor : ℕ) (a : Aimed ts limits gaps P R L k floor) where
-    pub few-goals : k ≤ 32
+    pub few-goals : k ≤ mostOutputs
     few-goals = omega (arith, a .count-is, goals-given .few)
 
     places-taken : take k P ≡ ps
-    places-taken = ap (take k) (a .places-are) ∙ padded-take 32 0 ps k (omega (arith, a .count-is, goals-given .places))
+    places-taken = ap (take k) (a .places-are) ∙ padded-take mostOutputs 0 ps k (omega (arith, a .count-is, goals-given .places))
 
     rooms-taken : take k R ≡ fs
-    rooms-taken = ap (take k) (a .rooms-are) ∙ padded-take 32 0 fs k (omega (arith, a .count-is, goals-given .rooms))
+    rooms-taken = ap (take k) (a .rooms-are) ∙ padded-take mostOutputs 0 fs k (omega (arith, a .count-is, goals-given .rooms))
 
     lows-taken : take k L ≡ gs
-    lows-taken = ap (take k) (a .lows-are) ∙ padded-take 32 0 gs k (a .count-is)
+    lows-taken = ap (take k) (a .lows-are) ∙ padded-take mostOutputs 0 gs k (a .count-is)
 
     pub weighing-taken : (top : ℕ) → top ≡ greatest limits → Weighing ms ds (take k P) (take k R) (take k L) h top floor
     weighing-taken top e = rw (places-taken, rooms-taken, lows-taken, e) (weighing-given floor (a .floor-is))

@@ -8,11 +8,12 @@ use lib.ListN.{length}
 use Rattle.circuit.specs.declared.Answer.{Answer}
 use Rattle.circuit.specs.declared.Answer.the-variants.{Done, Refused}
 use Rattle.circuit.specs.declared.Refusal.the-variants.{Shape, Target, TooDeep, TooShallow}
-use Rattle.circuit.specs.declared.Writing.{Writing}
 use Rattle.circuit.specs.Lines.{Listing, anyOf}
-use Rattle.circuit.specs.Stored.{stored, held, noCircuit}
-use Rattle.circuit.specs.Reading.{shaped, unless}
-use Rattle.circuit.specs.Writing.{intoRoom, roomAfter, writingCode}
+use Rattle.circuit.specs.Structs.{held, noCircuit}
+use Rattle.circuit.specs.Rules.{shaped, unless}
+use Rattle.stored.specs.declared.Writing.{Writing}
+use Rattle.stored.specs.Stored.{stored}
+use Rattle.stored.specs.Writing.{intoRoom, roomAfter, writingCode}
 use Rattle.distance.specs.Base.{inputs, weight}
 use Rattle.builder.specs.declared.Planned.{Planned}
 use Rattle.builder.specs.Rule.{Row, row, greedyCircuit}

@@ -6,6 +6,7 @@ use Prim.Native.Nat.{ℕ, zero, suc, _+_, _-_, _*_, _^_, _≤_, _<_}
 use lib.Bits.{bitXor}
 use lib.Dec.{leb, eqb}
 use lib.ListN.{length, getD, take, set, replicate}
+use Rattle.circuit.specs.Sizes.{mostOutputs, mostGates, mostLines}
 use Rattle.circuit.specs.Lines.{padded, greatest}
 use Rattle.distance.specs.Base.{Line, baseOf, Small, Shallow, Xor, xor, made, run, weight}
 use Rattle.distance.specs.Distance.{gates}
@@ -91,15 +92,15 @@ lowOf g t = g
 pub record Goals (ps fs gs : List ℕ) : Type 0 where
   pub places : length ps ≡ length gs
   pub rooms : length fs ≡ length gs
-  pub few : length gs ≤ 32
+  pub few : length gs ≤ mostOutputs
   pub below : (i : ℕ) → getD ps i 0 < 2048
   pub low : (i : ℕ) → getD gs i 0 < 8
 
 -- the goals of rows with these distances, in three arrays: how many, and the sum of the lows
 pub record Aimed (ts limits gaps places rooms lows : List ℕ) (k floor : ℕ) : Type 0 where
-  pub places-are : places ≡ padded 32 0 (toGo placeOf gaps ts)
-  pub rooms-are : rooms ≡ padded 32 0 (toGo roomOf gaps limits)
-  pub lows-are : lows ≡ padded 32 0 (toGo lowOf gaps ts)
+  pub places-are : places ≡ padded mostOutputs 0 (toGo placeOf gaps ts)
+  pub rooms-are : rooms ≡ padded mostOutputs 0 (toGo roomOf gaps limits)
+  pub lows-are : lows ≡ padded mostOutputs 0 (toGo lowOf gaps ts)
   pub count-is : k ≡ length (toGo lowOf gaps ts)
   pub floor-is : floor ≡ sum (toGo lowOf gaps ts)
 
@@ -110,7 +111,7 @@ pub record Choosing (ms ds ts limits gaps h : List ℕ) : Type 0 where
   pub even : length ms ≡ length ds
   pub shallow : Shallow ds
   pub paired : length ts ≡ length limits
-  pub few : length ts ≤ 32
+  pub few : length ts ≤ mostOutputs
   pub some : (i : ℕ) → i < length ts → getD ts i 0 ≡ 0 → ⊥
   pub limited : Shallow limits
   pub gaps-are : gaps ≡ distances (baseOf ms ds) (rowsOf ts limits)
@@ -152,7 +153,7 @@ pub record Chosen (ls : List Line) (rs : List Row) (over : Bool) (i j : ℕ) : T
 pub record Lowering (gaps ts limits h : List ℕ) (c : ℕ) : Type 0 where
   pub rows : length gaps ≡ length ts
   pub limits-too : length gaps ≡ length limits
-  pub few : length gaps ≤ 32
+  pub few : length gaps ≤ mostOutputs
   pub near : (i : ℕ) → getD gaps i 0 < 8
   pub cap : Capped h
   pub cheap : c ≤ 32768
@@ -163,17 +164,17 @@ base s = baseOf (take (s .len) (s .masks)) (take (s .len) (s .depths))
 
 -- a state from which the rule can go on: every row has a distance, and the distances stand in the state
 pub record Poised (ts limits : List ℕ) (s : State) : Type 0 where
-  pub within : s .len < 256
-  pub wide : length (s .masks) ≡ 256
-  pub deep : length (s .depths) ≡ 256
+  pub within : s .len < mostLines
+  pub wide : length (s .masks) ≡ mostLines
+  pub deep : length (s .depths) ≡ mostLines
   pub shallow : Shallow (s .depths)
   pub paired : length ts ≡ length limits
-  pub few : length ts ≤ 32
+  pub few : length ts ≤ mostOutputs
   pub sound : SoundRows (rowsOf ts limits)
   pub small : Small 8 (base s)
   pub alive : Alive (base s) (rowsOf ts limits)
   pub near : sum (distances (base s) (rowsOf ts limits)) ≤ 4096
-  pub gaps-are : s .gaps ≡ padded 32 0 (distances (base s) (rowsOf ts limits))
+  pub gaps-are : s .gaps ≡ padded mostOutputs 0 (distances (base s) (rowsOf ts limits))
 
 -- the table of its base, for the distances that are left
 abbrev pub Tabled : List ℕ → List ℕ → State → List ℕ → Type 0
@@ -191,10 +192,10 @@ pub record Stepped (ts limits : List ℕ) (s r : State) (h : List ℕ) (i j : �
   pub counted : r .count ≡ s .count + 1
   pub lefts : r .left ≡ set (s .left) (s .count) i
   pub rights : r .right ≡ set (s .right) (s .count) j
-  pub wide : length (r .masks) ≡ 256
-  pub deep : length (r .depths) ≡ 256
+  pub wide : length (r .masks) ≡ mostLines
+  pub deep : length (r .depths) ≡ mostLines
   pub shallow : Shallow (r .depths)
-  pub gaps-are : r .gaps ≡ padded 32 0 (distances (base r) (rowsOf ts limits))
+  pub gaps-are : r .gaps ≡ padded mostOutputs 0 (distances (base r) (rowsOf ts limits))
   pub tabled : Tabled ts limits r h
 
 -- the state after some steps from the base `first`
@@ -205,32 +206,32 @@ pub record SoFar (first : List Line) (ts limits : List ℕ) (s : State) : Type 0
   pub upto : s .count ≤ 224
   pub written : taken first (rowsOf ts limits) ≡ so-far ++ greedy (224 - s .count) (base s) (rowsOf ts limits)
   pub ran : run first (taken first (rowsOf ts limits)) ≡ run (base s) (greedy (224 - s .count) (base s) (rowsOf ts limits))
-  pub lefts : s .left ≡ padded 248 0 (map (λ (g : Xor). g .a) so-far)
-  pub rights : s .right ≡ padded 248 0 (map (λ (g : Xor). g .b) so-far)
+  pub lefts : s .left ≡ padded mostGates 0 (map (λ (g : Xor). g .a) so-far)
+  pub rights : s .right ≡ padded mostGates 0 (map (λ (g : Xor). g .b) so-far)
   pub few-inputs : length first ≤ 8
   pub long : s .len ≡ length first + s .count
 
 -- the end: all the gates, and all the lines
 pub record Grown (first : List Line) (rs : List Row) (s : State) : Type 0 where
   pub lines-are : base s ≡ run first (taken first rs)
-  pub lefts : s .left ≡ padded 248 0 (map (λ (g : Xor). g .a) (taken first rs))
-  pub rights : s .right ≡ padded 248 0 (map (λ (g : Xor). g .b) (taken first rs))
+  pub lefts : s .left ≡ padded mostGates 0 (map (λ (g : Xor). g .a) (taken first rs))
+  pub rights : s .right ≡ padded mostGates 0 (map (λ (g : Xor). g .b) (taken first rs))
   pub counted : s .count ≡ length (taken first rs)
-  pub within : s .len < 256
+  pub within : s .len < mostLines
 
 -- rows that no refusal ahead of 9 stops
 pub record Fit (n : ℕ) (ts : List ℕ) : Type 0 where
   pub inputs : n ≤ 8
-  pub few : length ts ≤ 32
+  pub few : length ts ≤ mostOutputs
   pub some : (i : ℕ) → i < length ts → getD ts i 0 ≡ 0 → ⊥
   pub below : (i : ℕ) → getD ts i 0 < 2 ^ n
 
 -- the state before the first step
 pub record Begun (n : ℕ) (ts : List ℕ) (s : State) : Type 0 where
-  pub masks-are : s .masks ≡ 1 ∷ 2 ∷ 4 ∷ 8 ∷ 16 ∷ 32 ∷ 64 ∷ 128 ∷ replicate 248 0
-  pub depths-are : s .depths ≡ replicate 256 0
+  pub masks-are : s .masks ≡ 1 ∷ 2 ∷ 4 ∷ 8 ∷ 16 ∷ 32 ∷ 64 ∷ 128 ∷ replicate mostGates 0
+  pub depths-are : s .depths ≡ replicate mostLines 0
   pub long : s .len ≡ n
-  pub gaps-are : s .gaps ≡ padded 32 0 (map (λ (t : ℕ). weight n t - 1) ts)
-  pub lefts : s .left ≡ replicate 248 0
-  pub rights : s .right ≡ replicate 248 0
+  pub gaps-are : s .gaps ≡ padded mostOutputs 0 (map (λ (t : ℕ). weight n t - 1) ts)
+  pub lefts : s .left ≡ replicate mostGates 0
+  pub rights : s .right ≡ replicate mostGates 0
   pub none : s .count ≡ 0

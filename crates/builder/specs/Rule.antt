@@ -4,7 +4,7 @@ use mathlib.Core.List.{List, [], _∷_, _++_, map}
 use Prim.Native.Nat.{ℕ, zero, suc, _+_, _-_, _*_}
 use lib.Dec.{leb, ltb, eqb}
 use lib.ListN.{length}
-use Rattle.circuit.specs.Lines.{Gate, Listing, greatest}
+use Rattle.circuit.specs.Lines.{Gate, Listing, gate, listing, greatest}
 use Rattle.distance.specs.Base.{Line, Xor, xor, made, run}
 use Rattle.distance.specs.Distance.{Gap, gates, never, distance}
 
@@ -154,8 +154,8 @@ lowest ls r = lowestFrom r 0 ls
 
 -- gate XOR i j as it stands in a circuit
 abbrev pub xorGate : Xor → Gate
-xorGate g = record { kind = 0; left = g .a; right = g .b }
+xorGate g = gate 0 (g .a) (g .b)
 
 -- the circuit over a base of n inputs: the gates taken, and each output names its row's lowest line within its limit
 unfoldable pub greedyCircuit : ℕ → List Line → List Row → Listing
-greedyCircuit n ls rs = record { inputs = n; gates = map xorGate (taken ls rs); outs = map (lowest (run ls (taken ls rs))) rs }
+greedyCircuit n ls rs = listing n (map xorGate (taken ls rs)) (map (lowest (run ls (taken ls rs))) rs)

@@ -1,11 +1,15 @@
 // The steps: the base grows by a gate until every row is made.
 ghost use mathlib.Core.Path.{_≡_};
 ghost use Prim.Native.Nat.{_≤_, _<_};
+ghost use Rattle.circuit.specs.Sizes.{mostOutputs};
 ghost use Rattle.circuit.specs.Lines.{padded};
 ghost use Rattle.builder.specs.Kept.{rowsOf, Capped, base, nextGap, nextGaps, Lowering, Poised, Tabled, Next, Stepped, SoFar, Chosen, Grown};
 use crate::pairs::Turn;
 use crate::pairs::misses;
 use crate::pairs::next_gate;
+use circuit::GATES;
+use circuit::LINES;
+use circuit::OUTPUTS;
 use circuit::depth::deeper;
 use circuit::depth::greatest_of;
 use distance::table::cost;
@@ -14,12 +18,12 @@ use distance::table::take_in;
 
 // The lines so far, the rows' distances from them, and the operands of the gates taken.
 pub(crate) struct State {
-    pub masks: [u8; 256],
-    pub depths: [u8; 256],
+    pub masks: [u8; LINES],
+    pub depths: [u8; LINES],
     pub len: usize,
-    pub gaps: [u8; 32],
-    pub left: [u8; 248],
-    pub right: [u8; 248],
+    pub gaps: [u8; OUTPUTS],
+    pub left: [u16; GATES],
+    pub right: [u16; GATES],
     pub count: usize,
 }
 
@@ -37,11 +41,11 @@ fn lower(h: &[u32; 2304], gap: u8, t: u8, limit: u8, m: u8, c: u32) -> u8
 }
 
 // The rows' distances after a line with mask m and cost c, by a look-up each.
-fn lowered(gaps: &[u8], rows: &[u8], limits: &[u8], h: &[u32; 2304], m: u8, c: u32) -> [u8; 32]
+fn lowered(gaps: &[u8], rows: &[u8], limits: &[u8], h: &[u32; 2304], m: u8, c: u32) -> [u8; OUTPUTS]
     requires { ⌜ Lowering (now gaps) (now rows) (now limits) (now h) c ⌝ }
-    ensures { λ r. ⌜ r ≡ padded 32 0 (nextGaps (now (h .entry)) m c (now (gaps .entry)) (now (rows .entry)) (now (limits .entry))) ⌝ }
+    ensures { λ r. ⌜ r ≡ padded mostOutputs 0 (nextGaps (now (h .entry)) m c (now (gaps .entry)) (now (rows .entry)) (now (limits .entry))) ⌝ }
 {
-    let mut next = [0u8; 32];
+    let mut next = [0u8; OUTPUTS];
     for i in 0..gaps.len() {
         next[i] = lower(h, gaps[i], rows[i], limits[i], m, c);
     }
@@ -88,8 +92,8 @@ fn add_gate(s: State, rows: &[u8], limits: &[u8], h: &mut [u32; 2304], a: usize,
     take_in(h, m, c, top as usize);
     masks[len] = m;
     depths[len] = depth;
-    left[count] = a as u8;
-    right[count] = b as u8;
+    left[count] = a as u16;
+    right[count] = b as u16;
     State {
         masks: masks,
         depths: depths,

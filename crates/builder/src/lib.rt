@@ -8,10 +8,10 @@ ghost use mathlib.Core.Path.{_≡_};
 ghost use Rattle.builder.specs.Call.{planOf, Builds, BuildsNumbered};
 use circuit::Answer;
 use circuit::Circuit;
-use circuit::Writing;
 use circuit::no_circuit;
-use circuit::restore::writing_code;
-use circuit::writer::write;
+use stored::Writing;
+use stored::restore::writing_code;
+use stored::writer::write;
 
 // What a plan gives: the circuit, or an empty one beside the refusal.
 pub struct Planned {

@@ -8,7 +8,7 @@ ghost use Rattle.distance.specs.Base.{weight};
 ghost use Rattle.builder.specs.Call.{badRow, tooHeavy, refusal};
 use circuit::Answer;
 use circuit::Refusal;
-use circuit::reader::is_shape;
+use circuit::rules::is_shape;
 
 // 2 to the power k.
 fn power(k: usize) -> usize

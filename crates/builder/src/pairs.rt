@@ -2,18 +2,20 @@
 ghost use mathlib.Core.Path.{_≡_};
 ghost use Prim.Native.Nat.{ℕ, _≤_, _<_};
 ghost use lib.ListN.{length, getD};
+ghost use Rattle.circuit.specs.Sizes.{mostOutputs};
 ghost use Rattle.distance.specs.Base.{baseOf, Shallow, xor};
 ghost use Rattle.builder.specs.Rule.{row, squares, best, better, start, firstPair, allPairs, bestPair};
 ghost use Rattle.builder.specs.Kept.{rowsOf, Capped, misses as missesOf, goalsAfter, goalsWith, Goals as AreGoals, Weighing, Aimed, Choosing, Chosen};
+use circuit::OUTPUTS;
 use circuit::depth::deeper;
 use circuit::depth::greatest_of;
 use distance::table::cost;
 
 // The rows that are not made yet: the table's place, the room 2^limit, and the distance less one, of each.
 struct Goals {
-    places: [usize; 32],
-    rooms: [u32; 32],
-    lows: [u32; 32],
+    places: [usize; OUTPUTS],
+    rooms: [u32; OUTPUTS],
+    lows: [u32; OUTPUTS],
     count: usize,
     floor: u32,
 }
@@ -131,12 +133,12 @@ fn weigh(
 
 // The goals: the rows whose distance is not 0.
 fn aim(rows: &[u8], limits: &[u8], gaps: &[u8]) -> Goals
-    requires { ⌜ length (now rows) ≡ length (now limits) ⌝ ∗ ⌜ length (now rows) ≡ length (now gaps) ⌝ ∗ ⌜ length (now rows) ≤ 32 ⌝ ∗ ⌜ ((i : ℕ) → getD (now gaps) i 0 < 8) ⌝ }
+    requires { ⌜ length (now rows) ≡ length (now limits) ⌝ ∗ ⌜ length (now rows) ≡ length (now gaps) ⌝ ∗ ⌜ length (now rows) ≤ mostOutputs ⌝ ∗ ⌜ ((i : ℕ) → getD (now gaps) i 0 < 8) ⌝ }
     ensures { λ r. ⌜ Aimed (now (rows .entry)) (now (limits .entry)) (now (gaps .entry)) (r .places) (r .rooms) (r .lows) (r .count) (r .floor) ⌝ }
 {
-    let mut places = [0usize; 32];
-    let mut rooms = [0u32; 32];
-    let mut lows = [0u32; 32];
+    let mut places = [0usize; OUTPUTS];
+    let mut rooms = [0u32; OUTPUTS];
+    let mut lows = [0u32; OUTPUTS];
     let mut count: usize = 0;
     let mut floor: u32 = 0;
     for i in 0..rows.len() {

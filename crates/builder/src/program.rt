@@ -4,8 +4,9 @@ ghost use mathlib.Core.List.{map};
 ghost use mathlib.Core.Path.{_≡_};
 ghost use Prim.Native.Nat.{ℕ, _-_, _≤_};
 ghost use lib.ListN.{length};
-ghost use Rattle.circuit.specs.Stored.{held};
 ghost use Rattle.circuit.specs.declared.Answer.the-variants.{Done};
+ghost use Rattle.circuit.specs.Sizes.{mostOutputs, mostLines};
+ghost use Rattle.circuit.specs.Structs.{held};
 ghost use Rattle.circuit.specs.Lines.{padded};
 ghost use Rattle.distance.specs.Base.{baseOf, weight};
 ghost use Rattle.builder.specs.Rule.{row, lowest as lowestOf};
@@ -15,13 +16,16 @@ use crate::grow::State;
 use crate::grow::grow;
 use crate::look::weight_of;
 use circuit::Circuit;
+use circuit::GATES;
+use circuit::LINES;
+use circuit::OUTPUTS;
 
 // The rows' distances from the inputs: the weight less one.
-fn first_gaps(n: usize, rows: &[u8]) -> [u8; 32]
+fn first_gaps(n: usize, rows: &[u8]) -> [u8; OUTPUTS]
     requires { ⌜ Fit n (now rows) ⌝ }
-    ensures { λ r. ⌜ r ≡ padded 32 0 (map (λ (t : ℕ). weight n t - 1) (now (rows .entry))) ⌝ }
+    ensures { λ r. ⌜ r ≡ padded mostOutputs 0 (map (λ (t : ℕ). weight n t - 1) (now (rows .entry))) ⌝ }
 {
-    let mut gaps = [0u8; 32];
+    let mut gaps = [0u8; OUTPUTS];
     for i in 0..rows.len() {
         gaps[i] = (weight_of(n, rows[i]) - 1) as u8;
     }
@@ -33,7 +37,7 @@ fn begin(n: usize, rows: &[u8]) -> State
     requires { ⌜ Fit n (now rows) ⌝ }
     ensures { λ r. ⌜ Begun n (now (rows .entry)) r ⌝ }
 {
-    let mut masks = [0u8; 256];
+    let mut masks = [0u8; LINES];
     masks[0] = 1;
     masks[1] = 2;
     masks[2] = 4;
@@ -45,11 +49,11 @@ fn begin(n: usize, rows: &[u8]) -> State
     let gaps = first_gaps(n, rows);
     State {
         masks: masks,
-        depths: [0u8; 256],
+        depths: [0u8; LINES],
         len: n,
         gaps: gaps,
-        left: [0u8; 248],
-        right: [0u8; 248],
+        left: [0u16; GATES],
+        right: [0u16; GATES],
         count: 0,
     }
 }
@@ -70,13 +74,13 @@ fn lowest(masks: &[u8], depths: &[u8], t: u8, limit: u8) -> usize
 }
 
 // The lines that the outputs name.
-fn outputs(masks: &[u8], depths: &[u8], rows: &[u8], limits: &[u8]) -> [u8; 32]
-    requires { ⌜ length (now masks) ≡ length (now depths) ⌝ ∗ ⌜ length (now rows) ≡ length (now limits) ⌝ ∗ ⌜ length (now rows) ≤ 32 ⌝ ∗ ⌜ length (now masks) ≤ 256 ⌝ }
-    ensures { λ r. ⌜ r ≡ padded 32 0 (map (lowestOf (baseOf (now (masks .entry)) (now (depths .entry)))) (rowsOf (now (rows .entry)) (now (limits .entry)))) ⌝ }
+fn outputs(masks: &[u8], depths: &[u8], rows: &[u8], limits: &[u8]) -> [u16; OUTPUTS]
+    requires { ⌜ length (now masks) ≡ length (now depths) ⌝ ∗ ⌜ length (now rows) ≡ length (now limits) ⌝ ∗ ⌜ length (now rows) ≤ mostOutputs ⌝ ∗ ⌜ length (now masks) ≤ mostLines ⌝ }
+    ensures { λ r. ⌜ r ≡ padded mostOutputs 0 (map (lowestOf (baseOf (now (masks .entry)) (now (depths .entry)))) (rowsOf (now (rows .entry)) (now (limits .entry)))) ⌝ }
 {
-    let mut outs = [0u8; 32];
+    let mut outs = [0u16; OUTPUTS];
     for i in 0..rows.len() {
-        outs[i] = lowest(masks, depths, rows[i], limits[i]) as u8;
+        outs[i] = lowest(masks, depths, rows[i], limits[i]) as u16;
     }
     outs
 }
@@ -87,7 +91,7 @@ pub(crate) fn program(n: usize, rows: &[u8], d: usize) -> Circuit
     ensures { λ r. ⌜ r ≡ held (built n (now (rows .entry)) d) ⌝ }
 {
     let m = rows.len();
-    let limits = [d as u8; 32];
+    let limits = [d as u8; OUTPUTS];
     let start = begin(n, rows);
     let s = grow(start, rows, &limits[..m]);
     let len = s.len;
@@ -100,7 +104,7 @@ pub(crate) fn program(n: usize, rows: &[u8], d: usize) -> Circuit
         n: n,
         m: m,
         g: s.count,
-        kinds: [0u8; 248],
+        kinds: [0u8; GATES],
         left: left,
         right: right,
         outputs: outs,

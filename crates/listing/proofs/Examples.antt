@@ -1,17 +1,13 @@
 -- The definitions on the definition's own examples, by computation: what the build program prints for K1, and a gate of each kind. Assumes nothing.
 use mathlib.Core.Path.{_≡_, refl}
 use mathlib.Core.List.{[], _∷_, _++_}
-use Prim.Native.Nat.{ℕ}
-use Rattle.circuit.specs.Lines.{Gate, Listing, reads, lines}
+use Rattle.circuit.specs.Lines.{Listing, gate, listing, reads, lines}
 use Rattle.text.specs.Numbers.{decText}
 use Rattle.listing.specs.Printed.{lineName, gateLine, outputLine, linesTo, countsText, linesText, listingText}
 
-abbrev gate : ℕ → ℕ → ℕ → Gate
-gate k a b = record { kind = k; left = a; right = b }
-
 -- K1
 abbrev k1 : Listing
-k1 = record { inputs = 3; gates = gate 0 0 1 ∷ gate 0 2 3 ∷ gate 0 1 2 ∷ []; outs = 3 ∷ 4 ∷ 5 ∷ [] }
+k1 = listing 3 (gate 0 0 1 ∷ gate 0 2 3 ∷ gate 0 1 2 ∷ []) (3 ∷ 4 ∷ 5 ∷ [])
 
 pub k1-printed : listingText k1 ≡
     -- inputs 3 outputs 3 gates 3 depth 2
@@ -34,11 +30,7 @@ k1-printed = refl
 -- a gate of each kind over two inputs
 abbrev pub seven : Listing
 seven =
-    record {
-      inputs = 2;
-      gates = gate 0 0 1 ∷ gate 1 0 2 ∷ gate 2 1 3 ∷ gate 3 4 1 ∷ gate 4 4 5 ∷ gate 5 5 6 ∷ gate 6 7 0 ∷ [];
-      outs = 8 ∷ 1 ∷ [];
-    }
+    listing 2 (gate 0 0 1 ∷ gate 1 0 2 ∷ gate 2 1 3 ∷ gate 3 4 1 ∷ gate 4 4 5 ∷ gate 5 5 6 ∷ gate 6 7 0 ∷ []) (8 ∷ 1 ∷ [])
 
 pub seven-printed : linesText seven ≡
     -- t0 = x0 ^ x1

@@ -8,10 +8,11 @@ use native.Mathlib.Numerals.{add-one}
 use lib.ListN.{getD}
 use Rattle.circuit.specs.declared.Circuit.{Circuit}
 use Rattle.circuit.specs.Lines.{upto, gateAt, depthOf}
-use Rattle.circuit.specs.Stored.{gateOf, outOf, listed}
-use Rattle.circuit.specs.Reading.{shaped}
+use Rattle.circuit.specs.Structs.{gateOf, outOf, listed}
+use Rattle.circuit.specs.Rules.{shaped}
 use Rattle.circuit.specs.Depth.{depthIn}
-use Rattle.circuit.proofs.Over.{upto-length, upto-at, gate-listed}
+use Rattle.circuit.proofs.Upto.{upto-length, upto-at}
+use Rattle.circuit.proofs.Listed.{gate-listed}
 use Rattle.listing.specs.Printed.{gateLine, outputLine, linesTo, gatesText, outputsText, linesText, countsText, newLine, listingText, linesIn}
 
 -- one line more

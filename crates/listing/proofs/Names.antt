@@ -1,5 +1,5 @@
 -- Laws of the names of lines: how a name goes by its number. Assumes nothing.
-use mathlib.Core.Path.{_≡_, ap, _∙_}
+use mathlib.Core.Path.{_≡_}
 use Prim.Native.Nat.{ℕ, _-_, _≤_, _<_}
 use borrow.Author.Tests.{lt-ltb, le-ltb}
 use Rattle.text.specs.Numbers.{numbered}
@@ -11,6 +11,6 @@ unfolding lineName
 input-name n line h = rw (lt-ltb line n h)
 
 -- the name of a gate's line
-pub gate-name : (n i line : ℕ) → i ≡ line → n ≤ i → numbered 116 (i - n) ≡ lineName n line
+pub gate-name : (n line : ℕ) → n ≤ line → numbered 116 (line - n) ≡ lineName n line
 unfolding lineName
-gate-name n i line e h = (let d : numbered 116 (i - n) ≡ lineName n i = rw (le-ltb i n h) in d) ∙ ap (lineName n) e
+gate-name n line h = rw (le-ltb line n h)

@@ -5,11 +5,11 @@ use Prim.Native.Nat.{ℕ, zero, suc, _-_}
 use lib.Dec.{ltb}
 use lib.ListN.{length, getD}
 use Rattle.circuit.specs.declared.Circuit.{Circuit}
+use Rattle.circuit.specs.declared.Refusal.{Refusal}
 use Rattle.circuit.specs.Gate.{Kind, kindOf}
 use Rattle.circuit.specs.Lines.{Gate, Listing, gateAt, depthOf}
-use Rattle.circuit.specs.Stored.{listed}
-use Rattle.circuit.specs.declared.Refusal.{Refusal}
-use Rattle.circuit.specs.Reading.{shaped, refusalNo}
+use Rattle.circuit.specs.Structs.{listed}
+use Rattle.circuit.specs.Rules.{shaped, refusalNo}
 use Rattle.text.specs.Numbers.{labelled, numbered}
 
 -- the name of line i of a circuit with n inputs: `x` and its number for an input, `t` and k for gate k
@@ -95,7 +95,7 @@ refusedText w = labelled refusedName (refusalNo w) ++ newLine
 abbrev pub countsSize : ℕ
 countsSize = 128
 
--- the most that the lines of 248 gates and 32 outputs take
+-- the most that the lines of a circuit take
 abbrev pub linesSize : ℕ
 linesSize = 6000
 

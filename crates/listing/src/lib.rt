@@ -1,36 +1,37 @@
 // A circuit as text in a lent room, as the build program and the bench's `show` write it.
 ghost use Prim.Native.Nat.{ℕ, _+_, _*_, _<_, _≤_};
 ghost use lib.ListN.{length};
+ghost use Rattle.circuit.specs.Sizes.{mostOutputs, mostGates, mostLines};
 ghost use Rattle.circuit.specs.Gate.{kindOf};
-ghost use Rattle.circuit.specs.Stored.{gateOf, outOf};
+ghost use Rattle.circuit.specs.Lines.{gate};
+ghost use Rattle.circuit.specs.Structs.{gateOf, outOf};
 ghost use Rattle.text.specs.Putting.{Put, PutFree};
 ghost use Rattle.listing.specs.Printed.{lineName, joined, turned, negated, formula, gateLine, outputLine, linesTo, countsText, refusedText, countsSize, linesSize, refusedSize, linesIn};
 use circuit::Circuit;
 use circuit::Refusal;
-use circuit::reader::is_shape;
+use circuit::line_index;
 use circuit::refusal_no;
-use circuit::wide;
+use circuit::rules::is_shape;
 use text::is_free;
 use text::put_labelled;
 use text::put_numbered;
 
 // The name of a line of a circuit with n inputs.
-fn put_name(room: &mut [u8], at: usize, n: usize, line: u8) -> usize
-    requires { ⌜ at + 4 ≤ length (now room) ⌝ }
+fn put_name(room: &mut [u8], at: usize, n: usize, line: usize) -> usize
+    requires { ⌜ (at + 4 ≤ length (now room)) × (line < mostLines) ⌝ }
     ensures { λ r. ⌜ Put (now (room .entry)) at (lineName n line) (now (room .exit)) r ⌝ }
     ensures { λ r. ⌜ r ≤ at + 4 ⌝ }
 {
-    let i = wide(line);
-    if i < n {
-        put_numbered(room, at, b'x', line)
+    if line < n {
+        put_numbered(room, at, b'x', line as u8)
     } else {
-        put_numbered(room, at, b't', (i - n) as u8)
+        put_numbered(room, at, b't', (line - n) as u8)
     }
 }
 
 // Two operands with a sign between them.
-fn put_joined(room: &mut [u8], at: usize, n: usize, left: u8, sign: u8, right: u8) -> usize
-    requires { ⌜ at + 11 ≤ length (now room) ⌝ }
+fn put_joined(room: &mut [u8], at: usize, n: usize, left: usize, sign: u8, right: usize) -> usize
+    requires { ⌜ (at + 11 ≤ length (now room)) × (left < mostLines) × (right < mostLines) ⌝ }
     ensures { λ r. ⌜ Put (now (room .entry)) at (joined (lineName n left) sign (lineName n right)) (now (room .exit)) r ⌝ }
     ensures { λ r. ⌜ r ≤ at + 11 ⌝ }
 {
@@ -41,8 +42,8 @@ fn put_joined(room: &mut [u8], at: usize, n: usize, left: u8, sign: u8, right: u
 }
 
 // The same turned over.
-fn put_turned(room: &mut [u8], at: usize, n: usize, left: u8, sign: u8, right: u8) -> usize
-    requires { ⌜ at + 14 ≤ length (now room) ⌝ }
+fn put_turned(room: &mut [u8], at: usize, n: usize, left: usize, sign: u8, right: usize) -> usize
+    requires { ⌜ (at + 14 ≤ length (now room)) × (left < mostLines) × (right < mostLines) ⌝ }
     ensures { λ r. ⌜ Put (now (room .entry)) at (turned (lineName n left) sign (lineName n right)) (now (room .exit)) r ⌝ }
     ensures { λ r. ⌜ r ≤ at + 14 ⌝ }
 {
@@ -52,8 +53,8 @@ fn put_turned(room: &mut [u8], at: usize, n: usize, left: u8, sign: u8, right: u
 }
 
 // NOT of one operand.
-fn put_not(room: &mut [u8], at: usize, n: usize, line: u8) -> usize
-    requires { ⌜ at + 5 ≤ length (now room) ⌝ }
+fn put_not(room: &mut [u8], at: usize, n: usize, line: usize) -> usize
+    requires { ⌜ (at + 5 ≤ length (now room)) × (line < mostLines) ⌝ }
     ensures { λ r. ⌜ Put (now (room .entry)) at (negated (lineName n line)) (now (room .exit)) r ⌝ }
     ensures { λ r. ⌜ r ≤ at + 5 ⌝ }
 {
@@ -62,8 +63,8 @@ fn put_not(room: &mut [u8], at: usize, n: usize, line: u8) -> usize
 }
 
 // The formula of a gate by its kind.
-fn put_formula(room: &mut [u8], at: usize, n: usize, kind: u8, left: u8, right: u8) -> usize
-    requires { ⌜ at + 14 ≤ length (now room) ⌝ }
+fn put_formula(room: &mut [u8], at: usize, n: usize, kind: u8, left: usize, right: usize) -> usize
+    requires { ⌜ (at + 14 ≤ length (now room)) × (left < mostLines) × (right < mostLines) ⌝ }
     ensures { λ r. ⌜ Put (now (room .entry)) at (formula (kindOf kind) (lineName n left) (lineName n right)) (now (room .exit)) r ⌝ }
     ensures { λ r. ⌜ r ≤ at + 14 ⌝ }
 {
@@ -94,9 +95,17 @@ fn put_formula(room: &mut [u8], at: usize, n: usize, kind: u8, left: u8, right: 
 }
 
 // The line of gate k.
-fn put_gate(room: &mut [u8], at: usize, n: usize, k: usize, kind: u8, left: u8, right: u8) -> usize
-    requires { ⌜ (at + 22 ≤ length (now room)) × (k < 256) ⌝ }
-    ensures { λ r. ⌜ Put (now (room .entry)) at (gateLine n k (record { kind = kind; left = left; right = right })) (now (room .exit)) r ⌝ }
+fn put_gate(
+    room: &mut [u8],
+    at: usize,
+    n: usize,
+    k: usize,
+    kind: u8,
+    left: usize,
+    right: usize,
+) -> usize
+    requires { ⌜ (at + 22 ≤ length (now room)) × (k < mostGates) × (left < mostLines) × (right < mostLines) ⌝ }
+    ensures { λ r. ⌜ Put (now (room .entry)) at (gateLine n k (gate kind left right)) (now (room .exit)) r ⌝ }
     ensures { λ r. ⌜ r ≤ at + 22 ⌝ }
 {
     let named = put_numbered(room, at, b't', k as u8);
@@ -106,8 +115,8 @@ fn put_gate(room: &mut [u8], at: usize, n: usize, k: usize, kind: u8, left: u8, 
 }
 
 // The line of output j.
-fn put_output(room: &mut [u8], at: usize, n: usize, j: usize, line: u8) -> usize
-    requires { ⌜ (at + 12 ≤ length (now room)) × (j < 256) ⌝ }
+fn put_output(room: &mut [u8], at: usize, n: usize, j: usize, line: usize) -> usize
+    requires { ⌜ (at + 12 ≤ length (now room)) × (j < mostOutputs) × (line < mostLines) ⌝ }
     ensures { λ r. ⌜ Put (now (room .entry)) at (outputLine n j line) (now (room .exit)) r ⌝ }
     ensures { λ r. ⌜ r ≤ at + 12 ⌝ }
 {
@@ -119,7 +128,7 @@ fn put_output(room: &mut [u8], at: usize, n: usize, j: usize, line: u8) -> usize
 
 // The lines of the gates.
 fn put_gates(room: &mut [u8], at: usize, c: Circuit) -> usize
-    requires { ⌜ (at + 22 * c .g ≤ length (now room)) × (c .g ≤ 248) ⌝ }
+    requires { ⌜ (at + 22 * c .g ≤ length (now room)) × (c .g ≤ mostGates) ⌝ }
     ensures { λ r. ⌜ Put (now (room .entry)) at (linesTo (λ (k : ℕ). gateLine (c .n) k (gateOf c k)) (c .g)) (now (room .exit)) r ⌝ }
     ensures { λ r. ⌜ r ≤ at + 22 * c .g ⌝ }
 {
@@ -128,7 +137,15 @@ fn put_gates(room: &mut [u8], at: usize, c: Circuit) -> usize
     let mut next = at;
     let mut k: usize = 0;
     while k < g {
-        next = put_gate(room, next, n, k, c.kinds[k], c.left[k], c.right[k]);
+        next = put_gate(
+            room,
+            next,
+            n,
+            k,
+            c.kinds[k],
+            line_index(c.left[k]),
+            line_index(c.right[k]),
+        );
         k += 1;
     }
     next
@@ -136,7 +153,7 @@ fn put_gates(room: &mut [u8], at: usize, c: Circuit) -> usize
 
 // The lines of the outputs.
 fn put_outputs(room: &mut [u8], at: usize, c: Circuit) -> usize
-    requires { ⌜ (at + 12 * c .m ≤ length (now room)) × (c .m ≤ 32) ⌝ }
+    requires { ⌜ (at + 12 * c .m ≤ length (now room)) × (c .m ≤ mostOutputs) ⌝ }
     ensures { λ r. ⌜ Put (now (room .entry)) at (linesTo (λ (j : ℕ). outputLine (c .n) j (outOf c j)) (c .m)) (now (room .exit)) r ⌝ }
     ensures { λ r. ⌜ r ≤ at + 12 * c .m ⌝ }
 {
@@ -145,7 +162,7 @@ fn put_outputs(room: &mut [u8], at: usize, c: Circuit) -> usize
     let mut next = at;
     let mut j: usize = 0;
     while j < m {
-        next = put_output(room, next, n, j, c.outputs[j]);
+        next = put_output(room, next, n, j, line_index(c.outputs[j]));
         j += 1;
     }
     next

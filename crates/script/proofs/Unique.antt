@@ -7,10 +7,8 @@ use lib.ListN.{length, drop, length-drop, length-take}
 use Rattle.text.proofs.Numbers.{bytes-length}
 use Rattle.script.specs.declared.Part.{Part}
 use Rattle.script.specs.declared.Call.{Call}
-use Rattle.script.specs.declared.Call.the-variants.{Silent, Unreadable, New, OpenMatrix, OpenTable, Report, Gate}
-use Rattle.script.specs.declared.Call.the-variants.{Output, Entry, Limits, Store, Held, Show, Build, Distance}
-use Rattle.script.specs.Order.{Order, silent, unreadable, askNew, askOpenMatrix, askOpenTable, askReport, askGate, askOutput}
-use Rattle.script.specs.Order.{askEntry, askLimits, askStore, askHeld, askShow, askBuild, askDistance, digitsOf, bytesOf, orderOf}
+use Rattle.script.specs.declared.Call.the-variants.{Silent, Unreadable, New, OpenMatrix, OpenTable, Report, Gate, Output, Entry, Limits, Store, Held, Show, Build, Distance}
+use Rattle.script.specs.Order.{Order, silent, unreadable, askNew, askOpenMatrix, askOpenTable, askReport, askGate, askOutput, askEntry, askLimits, askStore, askHeld, askShow, askBuild, askDistance, digitsOf, bytesOf, orderOf}
 use Rattle.script.specs.Placed.{HexPart, Placed, afterWords, Follows, Means}
 
 -- the part that says some bytes just before the rest of the line after k words

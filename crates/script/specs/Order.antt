@@ -5,8 +5,7 @@ use lib.ListN.{take, drop}
 use Rattle.text.specs.Numbers.{hexBytes}
 use Rattle.script.specs.declared.Part.{Part}
 use Rattle.script.specs.declared.Call.{Call}
-use Rattle.script.specs.declared.Call.the-variants.{Silent, Unreadable, New, OpenMatrix, OpenTable, Report, Gate}
-use Rattle.script.specs.declared.Call.the-variants.{Output, Entry, Limits, Store, Held, Show, Build, Distance}
+use Rattle.script.specs.declared.Call.the-variants.{Silent, Unreadable, New, OpenMatrix, OpenTable, Report, Gate, Output, Entry, Limits, Store, Held, Show, Build, Distance}
 
 -- what a line asks; the arguments are those of the call, in the order in which they are typed
 pub data Order : Type 0 where

@@ -8,8 +8,7 @@ use Rattle.text.specs.Places.{tailWords}
 use Rattle.text.specs.Numbers.{allHex}
 use Rattle.script.specs.declared.Part.{Part}
 use Rattle.script.specs.declared.Call.{Call}
-use Rattle.script.specs.declared.Call.the-variants.{Silent, Unreadable, New, OpenMatrix, OpenTable, Report, Gate}
-use Rattle.script.specs.declared.Call.the-variants.{Output, Entry, Limits, Store, Held, Show, Build, Distance}
+use Rattle.script.specs.declared.Call.the-variants.{Silent, Unreadable, New, OpenMatrix, OpenTable, Report, Gate, Output, Entry, Limits, Store, Held, Show, Build, Distance}
 use Rattle.script.specs.Order.{Order, digitsOf, orderOf}
 
 -- a part of pairs of hexadecimal digits, within a line that is not too long

@@ -206,6 +206,10 @@ decimal-short n h = short-text 20 19 n (omega arith)
 pub numbered-short : (letter k : ℕ) → k < 256 → length (numbered letter k) ≤ 4
 numbered-short letter k h = omega (arith, short-text 20 2 k (omega arith))
 
+-- and one below 65,536 at most six
+pub numbered-fits : (letter k : ℕ) → k < 65536 → length (numbered letter k) ≤ 6
+numbered-fits letter k h = omega (arith, short-text 20 4 k (omega arith))
+
 -- ---- a list of numbers
 
 -- the numbers of two lists, one after the other

@@ -224,21 +224,32 @@ pub fn put_numbered(room: &mut [u8], at: usize, letter: u8, x: u8) -> usize
     put_decimal(room, next, x as u64)
 }
 
-// Puts each number, after a space, at `at`, or nothing where fewer than 4 bytes are free for each.
-pub fn put_numbers(room: &mut [u8], at: usize, numbers: &[u8]) -> usize
-    ensures { λ r. ⌜ PutFree (now (room .entry)) at (4 * length (now (numbers .entry))) (numbersText (now (numbers .entry))) (now (room .exit)) r ⌝ }
+// Puts a space and a number below 65,536 at `at`, or nothing where fewer than 6 bytes are free.
+fn put_spaced(room: &mut [u8], at: usize, x: u16) -> usize
+    ensures { λ r. ⌜ PutFree (now (room .entry)) at 6 (numbered 32 x) (now (room .exit)) r ⌝ }
 {
-    // 4 times the count is tested in this form first, since it may be larger than any usize
-    if room.len() / 4 < numbers.len() {
+    if !is_free(room.len(), at, 6) {
         return at;
     }
-    if !is_free(room.len(), at, 4 * numbers.len()) {
+    let next = put(room, at, b" ");
+    put_decimal(room, next, x as u64)
+}
+
+// Puts each number, after a space, at `at`, or nothing where fewer than 6 bytes are free for each.
+pub fn put_numbers(room: &mut [u8], at: usize, numbers: &[u16]) -> usize
+    ensures { λ r. ⌜ PutFree (now (room .entry)) at (6 * length (now (numbers .entry))) (numbersText (now (numbers .entry))) (now (room .exit)) r ⌝ }
+{
+    // 6 times the count is tested in this form first, since it may be larger than any usize
+    if room.len() / 6 < numbers.len() {
+        return at;
+    }
+    if !is_free(room.len(), at, 6 * numbers.len()) {
         return at;
     }
     let mut next = at;
     let mut i = 0;
     while i < numbers.len() {
-        next = put_numbered(room, next, SPACE, numbers[i]);
+        next = put_spaced(room, next, numbers[i]);
         i += 1;
     }
     next

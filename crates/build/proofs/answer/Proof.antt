@@ -4,10 +4,10 @@ use Prim.Native.Nat.{_-_}
 use native.Mathlib.Omega.{arith}
 use lib.ListN.{length, take, drop, length-drop}
 use lib.Seq.{take-all}
-use Rattle.text.proofs.Putting.{put-as, put-free, counted}
-use Rattle.builder.specs.Call.{planOf}
-use Rattle.build.proofs.Answering.{too-short, other-length, is-planned, plan-text, plan-fits}
 use borrow.Author.Needs.{needs}
+use Rattle.builder.specs.Call.{planOf}
+use Rattle.text.proofs.Putting.{put-as, put-free, counted}
+use Rattle.build.proofs.Answering.{too-short, other-length, is-planned, plan-text, plan-fits}
 use Rattle.build.proofs.answer.Statement.{statement}
 use Rattle.build.proofs.answer.Tie as tie
 

@@ -3,10 +3,10 @@ use mathlib.Core.Path.{ap, _∙_}
 use mathlib.Core.List.{_++_}
 use Prim.Native.Nat.{ℕ}
 use native.Mathlib.Omega.{arith}
+use borrow.Author.Needs.{needs}
 use Rattle.text.proofs.Putting.{put-then, put-as, put-free, counted}
 use Rattle.listing.specs.Printed.{countsText, newLine, linesIn}
 use Rattle.listing.proofs.Listed.{listing-of}
-use borrow.Author.Needs.{needs}
 use Rattle.build.proofs.put_circuit.Statement.{statement}
 use Rattle.build.proofs.put_circuit.Tie as tie
 

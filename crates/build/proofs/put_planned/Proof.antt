@@ -1,6 +1,6 @@
 -- `build::put_planned` meets its contract. Assumes nothing.
-use Rattle.text.proofs.Putting.{put-free, counted}
 use borrow.Author.Needs.{needs}
+use Rattle.text.proofs.Putting.{put-free, counted}
 use Rattle.build.proofs.put_planned.Statement.{statement}
 use Rattle.build.proofs.put_planned.Tie as tie
 

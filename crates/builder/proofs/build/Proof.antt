@@ -1,7 +1,9 @@
 -- `build` meets its contract: a refusal leaves the room as it was, and the circuit is written by the writer.
 use mathlib.Core.Path.{sym, _∙_}
-use Rattle.builder.proofs.Promise.{plan-answer, plan-circuit, builds-refused, builds-done}
 use borrow.Author.Needs.{needs}
+use Rattle.builder.proofs.Promise.{plan-answer, plan-circuit, builds-refused, builds-done}
+use Rattle.builder.proofs.Refusals.{accepted}
+use Rattle.builder.proofs.Solved.{sound-circuit}
 use Rattle.builder.proofs.build.Statement.{statement}
 use Rattle.builder.proofs.build.Tie as tie
 
@@ -25,9 +27,14 @@ same-length c = search needs
 
 returns-2 : tie.Need-returns-2
 returns-2 c =
-    let a = c .before .before .before .before .before .before .before .before .before .before .args in
-    let d = c .before .before .before .before .before .enum-told .given .1 in
-    builds-done (a .n) (a .rows .now) (a .d) (a .room .now) (c .before .before .before .before .before .before .before .plan .result .circuit) (c .before .before .write .result) _ (sym (plan-answer (a .n) (a .rows .now) (a .d) (c .before .before .before .before .before .before .before .plan .result) (c .before .before .before .before .before .before .before .plan .ensures)) ∙ d) (plan-circuit (a .n) (a .rows .now) (a .d) (c .before .before .before .before .before .before .before .plan .result) (c .before .before .before .before .before .before .before .plan .ensures) d) (c .before .before .write .ensures)
+    let w = c .before .before in
+    let told = w .before .before .before in
+    let p = told .before .before in
+    let a = p .before .before .before .args in
+    let d = told .enum-told .given .1 in
+    let e = sym (plan-answer (a .n) (a .rows .now) (a .d) (p .plan .result) (p .plan .ensures)) ∙ d in
+    builds-done (a .n) (a .rows .now) (a .d) (a .room .now) (p .plan .result .circuit) (w .write .result) _ e (sound-circuit (a .n) (a .rows .now) (a .d) (accepted (a .n) (a .rows .now) (a .d) e))
+    (plan-circuit (a .n) (a .rows .now) (a .d) (p .plan .result) (p .plan .ensures) d) (w .write .ensures)
 
 pub build-spec : {M : Type 1} → statement M
 build-spec =

@@ -1,7 +1,7 @@
 -- `build_no` meets its contract: the number of `build`'s answer. Assumes nothing.
 use mathlib.Core.Path.{_∙_, ap}
-use Rattle.circuit.specs.Writing.{writingCode}
 use borrow.Author.Needs.{needs}
+use Rattle.stored.specs.Writing.{writingCode}
 use Rattle.builder.proofs.build_no.Statement.{statement}
 use Rattle.builder.proofs.build_no.Tie as tie
 

@@ -1,11 +1,11 @@
 -- `plan` meets its contract: a refusal is what the look found, and nothing after it refuses.
 use mathlib.Core.Path.{sym, ap, _∙_}
+use borrow.Author.Needs.{needs}
 use Rattle.circuit.specs.declared.Answer.{Answer}
 use Rattle.circuit.specs.declared.Answer.the-variants.{Done, Refused}
 use Rattle.circuit.specs.declared.Circuit.{Circuit}
 use Rattle.builder.specs.declared.Planned.{Planned}
 use Rattle.builder.specs.Call.{built, planned, planOf}
-use borrow.Author.Needs.{needs}
 use Rattle.builder.proofs.plan.Statement.{statement}
 use Rattle.builder.proofs.plan.Tie as tie
 

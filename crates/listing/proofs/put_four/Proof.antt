@@ -1,8 +1,8 @@
 -- `listing::put_four` meets its contract. Assumes nothing.
 use native.Mathlib.Omega.{arith}
+use borrow.Author.Needs.{needs}
 use Rattle.text.proofs.Putting.{put-then, put-free}
 use Rattle.listing.specs.Printed.{countsText}
-use borrow.Author.Needs.{needs}
 use Rattle.listing.proofs.put_four.Statement.{statement}
 use Rattle.listing.proofs.put_four.Tie as tie
 

@@ -6,8 +6,8 @@ use native.Mathlib.Omega.{arith}
 use borrow.Author.Needs.{needs}
 use borrow.Author.Tests.{not-true, not-false}
 use lib.ListN.{length}
-use Rattle.circuit.specs.Reading.{shaped}
-use Rattle.circuit.proofs.Accept.{Shaped, shape-is}
+use Rattle.circuit.specs.Rules.{shaped}
+use Rattle.circuit.proofs.Shapes.{Shaped, shape-is}
 use Rattle.text.proofs.Putting.{put-none, put-then, put-as, is-free, not-free, put-fits, put-short}
 use Rattle.listing.specs.Printed.{linesSize}
 use Rattle.listing.proofs.Listed.{all-lines, no-lines}

@@ -6,14 +6,14 @@ use Rattle.listing.proofs.Names.{input-name, gate-name}
 use Rattle.listing.proofs.put_name.Statement.{statement}
 use Rattle.listing.proofs.put_name.Tie as tie
 
-wide-requires : tie.Need-wide-requires
-wide-requires c κs = search needs
+cast-put-numbered : tie.Need-cast-put-numbered
+cast-put-numbered c = search needs
 
 put-numbered-requires : tie.Need-put-numbered-requires
 put-numbered-requires c κs = search needs
 
-cast-put-numbered : tie.Need-cast-put-numbered
-cast-put-numbered c = search needs
+cast-put-numbered-2 : tie.Need-cast-put-numbered-2
+cast-put-numbered-2 c = search needs
 
 put-numbered-requires-2 : tie.Need-put-numbered-requires-2
 put-numbered-requires-2 c κs = search needs
@@ -25,9 +25,8 @@ returns : tie.Need-returns
 returns c =
     let p = c .before .before in
     let t = p .before .before in
-    let w = t .before .wide .ensures .0 in
-    let a = t .before .before .before .args in
-    (put-as (input-name (a .n) (a .line) (omega (arith, w))) (put-free (omega arith) (p .put-numbered .ensures)), search needs)
+    let a = t .before .before .args in
+    (put-as (input-name (a .n) (a .line) (omega arith)) (put-free (omega arith) (p .put-numbered .ensures)), search needs)
 
 same-length-2 : tie.Need-same-length-2
 same-length-2 c = search needs
@@ -36,17 +35,16 @@ returns-2 : tie.Need-returns-2
 returns-2 c =
     let p = c .before .before in
     let t = p .before .before in
-    let w = t .before .wide .ensures .0 in
-    let a = t .before .before .before .args in
-    (put-as (gate-name (a .n) _ _ w (t .if1 .left)) (put-free (omega arith) (p .put-numbered2 .ensures)), search needs)
+    let a = t .before .before .args in
+    (put-as (gate-name (a .n) (a .line) (t .if1 .left)) (put-free (omega arith) (p .put-numbered2 .ensures)), search needs)
 
 pub put-name-spec : {M : Type 1} → statement M
 put-name-spec =
     tie.close
     (tie.spec
-    wide-requires
-    put-numbered-requires
     cast-put-numbered
+    put-numbered-requires
+    cast-put-numbered-2
     put-numbered-requires-2
     same-length
     returns

@@ -4,7 +4,8 @@ use Prim.Native.Nat.{ℕ, _+_, _-_, _*_, _≤_}
 use native.Mathlib.Omega.{arith}
 use borrow.Author.Needs.{needs}
 use lib.ListN.{length}
-use Rattle.circuit.specs.Stored.{outOf}
+use Rattle.circuit.specs.Sizes.{mostOutputs}
+use Rattle.circuit.specs.Structs.{outOf}
 use Rattle.text.specs.Putting.{Put}
 use Rattle.text.proofs.Putting.{put-none, put-then, put-as}
 use Rattle.listing.specs.Printed.{outputLine, linesTo}
@@ -14,7 +15,7 @@ use Rattle.listing.proofs.put_outputs.Tie as tie
 
 abbrev Inv-loop : tie.InvT-loop
 Inv-loop room₀ at c n m next₀ j₀ room next j =
-    (j ≤ m) × (at + 12 * m ≤ length room₀) × (m ≤ 32) × (length room ≡ length room₀) × (next ≤ at + 12 * j)
+    (j ≤ m) × (at + 12 * m ≤ length room₀) × (m ≤ mostOutputs) × (length room ≡ length room₀) × (next ≤ at + 12 * j)
     × Put room₀ at (linesTo (λ (j : ℕ). outputLine (c .n) j (outOf c j)) j) room next
 
 abbrev μ-loop : tie.MeasureT-loop
@@ -26,8 +27,14 @@ loop-holds c =
     let a = c .before .args in
     (search needs, search needs, search needs, search needs, search needs, put-none (a .room .now) (a .at))
 
-element-copy-out-put-output : tie.Need-element-copy-out-put-output Inv-loop μ-loop
-element-copy-out-put-output c = search needs
+mul-line-index : tie.Need-mul-line-index Inv-loop μ-loop
+mul-line-index c = search needs
+
+element-copy-out-line-index : tie.Need-element-copy-out-line-index Inv-loop μ-loop
+element-copy-out-line-index c = search needs
+
+line-index-requires : tie.Need-line-index-requires Inv-loop μ-loop
+line-index-requires c κs = search needs
 
 put-output-requires : tie.Need-put-output-requires Inv-loop μ-loop
 put-output-requires c κs = search needs
@@ -41,14 +48,16 @@ loop-less c = search needs
 loop-again : tie.Need-loop-again Inv-loop μ-loop
 loop-again c =
     let p = c .before .before in
-    let h = c .before .before .before .before .before .before in
-    let t = h .before .before .args .t3 in (
+    let l = p .before in
+    let h = l .before .before .before .before in
+    let t = h .before .before .args .t3 in
+    let line = ap (outputLine (t .n) (h .loop .j)) (l .line-index .ensures .0) in (
       search needs,
       search needs,
       search needs,
       search needs,
       search needs,
-      put-as (lines-next (λ (j : ℕ). outputLine (t .n) j (outOf t j)) (h .loop .j)) (put-then (omega arith) (h .loop .inv .5) (p .put-output .ensures .0)),
+      put-as (lines-next (λ (j : ℕ). outputLine (t .n) j (outOf t j)) (h .loop .j)) (put-then (omega arith) (h .loop .inv .5) (put-as line (p .put-output .ensures .0))),
     )
 
 same-length : tie.Need-same-length Inv-loop μ-loop
@@ -68,7 +77,9 @@ put-outputs-spec =
     Inv-loop
     μ-loop
     loop-holds
-    element-copy-out-put-output
+    mul-line-index
+    element-copy-out-line-index
+    line-index-requires
     put-output-requires
     add-j
     loop-less

@@ -7,8 +7,8 @@ use mathlib.Core.Bool.{not}
 use lib.Dec.{eqb}
 use borrow.Author.Tests.{eq-eqb, ne-eqb}
 use lib.ListN.{length, drop}
-use Rattle.text.proofs.Places.{run-here, run-next, run-end}
 use Rattle.text.specs.Places.{upTo}
+use Rattle.text.proofs.Places.{run-here, run-next, run-end}
 use Rattle.text.proofs.find.Statement.{statement}
 use Rattle.text.proofs.find.Tie as tie
 

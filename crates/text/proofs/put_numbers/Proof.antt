@@ -14,7 +14,7 @@ use Rattle.text.proofs.put_numbers.Tie as tie
 
 abbrev Inv-loop : tie.InvT-loop
 Inv-loop room₀ at numbers next₀ i₀ room next i =
-    (i ≤ length numbers) × (at + 4 * length numbers ≤ length room₀) × (length room ≡ length room₀) × (next ≤ at + 4 * i)
+    (i ≤ length numbers) × (at + 6 * length numbers ≤ length room₀) × (length room ≡ length room₀) × (next ≤ at + 6 * i)
     × Put room₀ at (numbersText (take i numbers)) room next
 
 abbrev μ-loop : tie.MeasureT-loop
@@ -38,11 +38,14 @@ loop-holds c =
     let a = c .before .before .before .before .before .args in
     (search needs, is-free _ _ (c .before .is-free .ensures) (c .if2 .left), search needs, search needs, put-none (a .room .now) (a .at))
 
-shared-slice-read-put-numbered : tie.Need-shared-slice-read-put-numbered Inv-loop μ-loop
-shared-slice-read-put-numbered c = search needs
+mul-put-spaced : tie.Need-mul-put-spaced Inv-loop μ-loop
+mul-put-spaced c = search needs
 
-put-numbered-requires : tie.Need-put-numbered-requires Inv-loop μ-loop
-put-numbered-requires c κs = search needs
+shared-slice-read-put-spaced : tie.Need-shared-slice-read-put-spaced Inv-loop μ-loop
+shared-slice-read-put-spaced c = search needs
+
+put-spaced-requires : tie.Need-put-spaced-requires Inv-loop μ-loop
+put-spaced-requires c κs = search needs
 
 add-i : tie.Need-add-i Inv-loop μ-loop
 add-i c = search needs
@@ -61,7 +64,7 @@ loop-again c =
       search needs,
       search needs,
       put-as (numbers-next (a .numbers .now) (h .loop .i) (n .loop-test .taken))
-          (put-then (omega arith) (h .loop .inv .4) (put-free (omega arith) (p .put-numbered .ensures))),
+          (put-then (omega arith) (h .loop .inv .4) (put-free (omega arith) (p .put-spaced .ensures))),
     )
 
 same-length : tie.Need-same-length Inv-loop μ-loop
@@ -85,8 +88,9 @@ put-numbers-spec =
     is-free-requires
     returns-2
     loop-holds
-    shared-slice-read-put-numbered
-    put-numbered-requires
+    mul-put-spaced
+    shared-slice-read-put-spaced
+    put-spaced-requires
     add-i
     loop-less
     loop-again

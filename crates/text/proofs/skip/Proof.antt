@@ -6,8 +6,8 @@ use Prim.Native.Nat.{ℕ, _+_, _-_}
 use lib.Dec.{eqb}
 use borrow.Author.Tests.{eq-eqb, ne-eqb}
 use lib.ListN.{length, drop}
-use Rattle.text.proofs.Places.{run-here, run-next, run-end}
 use Rattle.text.specs.Places.{past}
+use Rattle.text.proofs.Places.{run-here, run-next, run-end}
 use Rattle.text.proofs.skip.Statement.{statement}
 use Rattle.text.proofs.skip.Tie as tie
 

@@ -3,8 +3,8 @@ use mathlib.Core.Path.{sym}
 use Prim.Native.Nat.{_<_}
 use native.Mathlib.Omega.{arith}
 use lib.Seq.{length-take-le}
-use Rattle.builder.proofs.Steps.{first-in, second-in, gaps-wide, lowering, next-wide, stepped}
 use borrow.Author.Needs.{needs}
+use Rattle.builder.proofs.Steps.{first-in, second-in, gaps-wide, lowering, next-wide, stepped}
 use Rattle.builder.proofs.grow.add_gate.Statement.{statement}
 use Rattle.builder.proofs.grow.add_gate.Tie as tie
 
@@ -66,11 +66,17 @@ array-write-depths c = search needs
 cast-left : tie.Need-cast-left
 cast-left c = omega (arith, one (c .before .before .before .before .before .before .before .before .before .before .before .before .before .before .before .before), c .before .before .before .before .before .before .before .before .before .before .before .before .before .before .before .before .pre .0 .within)
 
+mul-left : tie.Need-mul-left
+mul-left c = search needs
+
 array-write-left : tie.Need-array-write-left
 array-write-left c = search needs
 
 cast-right : tie.Need-cast-right
 cast-right c = omega (arith, two (c .before .before .before .before .before .before .before .before .before .before .before .before .before .before .before .before), c .before .before .before .before .before .before .before .before .before .before .before .before .before .before .before .before .pre .0 .within)
+
+mul-right : tie.Need-mul-right
+mul-right c = search needs
 
 array-write-right : tie.Need-array-write-right
 array-write-right c = search needs
@@ -78,8 +84,8 @@ array-write-right c = search needs
 add-t30 : tie.Need-add-t30
 add-t30 c = search needs
 
-add-t50 : tie.Need-add-t50
-add-t50 c = search needs
+add-t51 : tie.Need-add-t51
+add-t51 c = search needs
 
 returns : tie.Need-returns
 returns c = stepped (c .before .before .before .before .before .before .before .before .before .before .before .before .before .before .before .before .args .rows .now) (c .before .before .before .before .before .before .before .before .before .before .before .before .before .before .before .before .args .limits .now) (c .before .before .before .before .before .before .before .before .before .before .before .before .before .before .before .before .args .s) (c .before .before .before .before .before .before .before .before .before .before .before .before .before .before .before .before .pre .0) (c .before .before .before .before .before .before .before .before .before .before .before .before .before .before .before .before .args .h .now) (c .before .before .before .before .before .before .before .before .before .before .before .before .before .before .before .before .pre .1 .0) (c .before .before .before .before .before .before .before .before .before .before .before .before .before .before .before .before .args .a) (c .before .before .before .before .before .before .before .before .before .before .before .before .before .before .before .before .args .b) (c .before .before .before .before .before .before .before .before .before .before .before .before .before .before .before .before .pre .1 .1 .0) (c .before .before .before .before .before .before .before .before .deeper .result) (c .before .before .before .before .before .before .before .cost .result) (c .before .before .before .before .before .before .before .before .deeper .ensures) (c .before .before .before .before .before .before .before .cost .ensures) (λ k. c .before .before .before .before .before .before .before .before .before .before .before .before .before .before .before .shared-slice-known .given k .fits) (c .before .before .before .before .lowered .result) (c .before .before .before .before .lowered .ensures) (c .before .before .greatest-of .result) (c .before .before .greatest-of .ensures) _ (c .take-in .ensures)
@@ -105,9 +111,11 @@ add-gate-spec =
     array-write-masks
     array-write-depths
     cast-left
+    mul-left
     array-write-left
     cast-right
+    mul-right
     array-write-right
     add-t30
-    add-t50
+    add-t51
     returns)

@@ -1,9 +1,9 @@
 -- `lower` meets its contract: a row that is made stays made, and the look-up tells of another.
 use Prim.Native.Nat.{_-_, _*_, _+_}
 use native.Mathlib.Omega.{arith}
+use borrow.Author.Needs.{needs}
 use Rattle.builder.proofs.Lookup.{misses-le}
 use Rattle.builder.proofs.Goals.{next-made, next-goal}
-use borrow.Author.Needs.{needs}
 use Rattle.builder.proofs.grow.lower.Statement.{statement}
 use Rattle.builder.proofs.grow.lower.Tie as tie
 

@@ -5,6 +5,7 @@ use native.Mathlib.Omega.{arith}
 use borrow.Author.Needs.{needs}
 use lib.ListN.{length, take, set}
 use Rattle.circuit.specs.Lines.{padded}
+use Rattle.circuit.specs.Sizes.{mostOutputs}
 use Rattle.circuit.proofs.Padding.{padded-none, padded-next, padded-all}
 use Rattle.builder.specs.Kept.{nextGaps}
 use Rattle.builder.proofs.Goals.{next-length, next-at}
@@ -12,13 +13,13 @@ use Rattle.builder.proofs.grow.lowered.Statement.{statement}
 use Rattle.builder.proofs.grow.lowered.Tie as tie
 
 abbrev Inv-loop : tie.InvT-loop
-Inv-loop gaps rows limits h m c next₀ i₀ i-end next i = (i ≤ length gaps) × (next ≡ padded 32 0 (take i (nextGaps h m c gaps rows limits)))
+Inv-loop gaps rows limits h m c next₀ i₀ i-end next i = (i ≤ length gaps) × (next ≡ padded mostOutputs 0 (take i (nextGaps h m c gaps rows limits)))
 
 abbrev μ-loop : tie.MeasureT-loop
 μ-loop gaps rows limits h m c next₀ i₀ i-end next i = i-end - i
 
 loop-holds : tie.Need-loop-holds Inv-loop μ-loop
-loop-holds c = (search needs, sym (padded-none 32 0))
+loop-holds c = (search needs, sym (padded-none mostOutputs 0))
 
 shared-slice-read-lower : tie.Need-shared-slice-read-lower Inv-loop μ-loop
 shared-slice-read-lower c = search needs
@@ -47,13 +48,13 @@ loop-again c =
     let i = c .before .before .before .before .before .loop .i in
     let zs = nextGaps (a .h .now) (a .m) (a .c) (a .gaps .now) (a .rows .now) (a .limits .now) in
     let n = next-length (a .h .now) (a .m) (a .c) (a .gaps .now) (a .rows .now) (a .limits .now) (c .before .before .before .before .before .before .before .before .before .pre .rows) (c .before .before .before .before .before .before .before .before .before .pre .limits-too) in
-    (search needs, ap (λ (l : mathlib.Core.List.List ℕ). set l i (c .lower .result)) (c .before .before .before .before .before .loop .inv .1) ∙ padded-next 32 0 zs i (c .lower .result) (omega (arith, n, c .before .before .before .before .loop-test .taken)) (omega (arith, n, c .before .before .before .before .before .before .before .before .before .pre .few)) (c .lower .ensures ∙ sym (next-at (a .h .now) (a .m) (a .c) (a .gaps .now) (a .rows .now) (a .limits .now) i (c .before .before .before .before .before .before .before .before .before .pre .rows) (c .before .before .before .before .before .before .before .before .before .pre .limits-too) (c .before .before .before .before .loop-test .taken))))
+    (search needs, ap (λ (l : mathlib.Core.List.List ℕ). set l i (c .lower .result)) (c .before .before .before .before .before .loop .inv .1) ∙ padded-next mostOutputs 0 zs i (c .lower .result) (omega (arith, n, c .before .before .before .before .loop-test .taken)) (omega (arith, n, c .before .before .before .before .before .before .before .before .before .pre .few)) (c .lower .ensures ∙ sym (next-at (a .h .now) (a .m) (a .c) (a .gaps .now) (a .rows .now) (a .limits .now) i (c .before .before .before .before .before .before .before .before .before .pre .rows) (c .before .before .before .before .before .before .before .before .before .pre .limits-too) (c .before .before .before .before .loop-test .taken))))
 
 returns : tie.Need-returns Inv-loop μ-loop
 returns c =
     let a = c .before .before .before .before .before .args in
     let zs = nextGaps (a .h .now) (a .m) (a .c) (a .gaps .now) (a .rows .now) (a .limits .now) in
-    c .before .loop .inv .1 ∙ padded-all 32 0 zs (c .before .loop .i) (omega (arith, c .before .loop .inv .0, c .loop-test .left, next-length (a .h .now) (a .m) (a .c) (a .gaps .now) (a .rows .now) (a .limits .now) (c .before .before .before .before .before .pre .rows) (c .before .before .before .before .before .pre .limits-too)))
+    c .before .loop .inv .1 ∙ padded-all mostOutputs 0 zs (c .before .loop .i) (omega (arith, c .before .loop .inv .0, c .loop-test .left, next-length (a .h .now) (a .m) (a .c) (a .gaps .now) (a .rows .now) (a .limits .now) (c .before .before .before .before .before .pre .rows) (c .before .before .before .before .before .pre .limits-too)))
 
 pub lowered-spec : {M : Type 1} → statement M
 lowered-spec =

@@ -2,9 +2,9 @@
 use mathlib.Core.Path.{sym}
 use native.Mathlib.Omega.{arith}
 use lib.Seq.{length-take-le}
+use borrow.Author.Needs.{needs}
 use Rattle.builder.specs.Kept.{base}
 use Rattle.builder.proofs.Steps.{choosing, gaps-wide}
-use borrow.Author.Needs.{needs}
 use Rattle.builder.proofs.grow.turn.Statement.{statement}
 use Rattle.builder.proofs.grow.turn.Tie as tie
 

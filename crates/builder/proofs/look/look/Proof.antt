@@ -2,7 +2,8 @@
 use mathlib.Core.Path.{sym, _∙_}
 use borrow.Author.Needs.{needs}
 use borrow.Author.Tests.{not-true, not-false}
-use Rattle.builder.proofs.Refusals.{refused-shape, refused-row, refused-deep, refused-shallow, refused-not, ranged, fit}
+use Rattle.circuit.proofs.Shapes.{shape-is}
+use Rattle.builder.proofs.Refusals.{refused-shape, refused-row, refused-deep, refused-shallow, refused-not, fit}
 use Rattle.builder.proofs.look.look.Statement.{statement}
 use Rattle.builder.proofs.look.look.Tie as tie
 
@@ -13,7 +14,7 @@ returns : tie.Need-returns
 returns c = refused-shape (c .before .before .before .args .n) (c .before .before .before .args .rows .now) (c .before .before .before .args .d) (sym (c .before .is-shape .ensures) ∙ not-true _ (c .if1 .taken))
 
 any-bad-requires : tie.Need-any-bad-requires
-any-bad-requires c κs = ranged _ _ _ (sym (c .before .is-shape .ensures) ∙ not-false _ (c .if1 .left)) .inputs
+any-bad-requires c κs = shape-is _ _ _ (sym (c .before .is-shape .ensures) ∙ not-false _ (c .if1 .left)) .n-most
 
 returns-2 : tie.Need-returns-2
 returns-2 c = refused-row (c .before .before .before .before .before .args .n) (c .before .before .before .before .before .args .rows .now) (c .before .before .before .before .before .args .d) (sym (c .before .before .before .is-shape .ensures) ∙ not-false _ (c .before .before .if1 .left)) (sym (c .before .any-bad .ensures) ∙ c .if2 .taken)

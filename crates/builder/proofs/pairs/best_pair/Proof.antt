@@ -4,8 +4,9 @@ use Prim.Native.Nat.{_≤_}
 use native.Mathlib.Omega.{arith}
 use lib.ListN.{length}
 use lib.Seq.{length-take-le}
-use Rattle.builder.proofs.Weighed.{gaps-length, gap-small, few-goals, weighing-taken, best-taken}
 use borrow.Author.Needs.{needs}
+use Rattle.circuit.specs.Sizes.{mostOutputs}
+use Rattle.builder.proofs.Weighed.{gaps-length, gap-small, few-goals, weighing-taken, best-taken}
 use Rattle.builder.proofs.pairs.best_pair.Statement.{statement}
 use Rattle.builder.proofs.pairs.best_pair.Tie as tie
 
@@ -18,28 +19,28 @@ greatest-of-requires : tie.Need-greatest-of-requires
 greatest-of-requires c κs = search needs
 
 -- the count is within the arrays
-few : (c : tie.After-aim) → c .aim .result .count ≤ 32
+few : (c : tie.After-aim) → c .aim .result .count ≤ mostOutputs
 few c =
     let a = c .before .before .before .before .before .before .args in
     few-goals (a .masks .now) (a .depths .now) (a .rows .now) (a .limits .now) (a .gaps .now) (a .h .now) (c .before .before .before .before .before .before .pre) (λ i. c .before .before .before .before .before .shared-slice-known .given i .fits) (λ i. c .before .before .before .shared-slice-known3 .given i .fits) (c .aim .result .places) (c .aim .result .rooms) (c .aim .result .lows) (c .aim .result .count) (c .aim .result .floor) (c .aim .ensures)
 
 array-share-prefix-places : tie.Need-array-share-prefix-places
-array-share-prefix-places c = let e : length (c .before .before .before .before .aim .result .places) ≡ 32 = search needs in omega (arith, few (c .before .before .before .before))
+array-share-prefix-places c = let e : length (c .before .before .before .before .aim .result .places) ≡ mostOutputs = search needs in omega (arith, few (c .before .before .before .before))
 
 slice-aggregate-weigh : tie.Need-slice-aggregate-weigh
-slice-aggregate-weigh c = let e : length (c .before .before .before .before .before .aim .result .places) ≡ 32 = search needs in sym (length-take-le _ _ (omega (arith, few (c .before .before .before .before .before))))
+slice-aggregate-weigh c = let e : length (c .before .before .before .before .before .aim .result .places) ≡ mostOutputs = search needs in sym (length-take-le _ _ (omega (arith, few (c .before .before .before .before .before))))
 
 array-share-prefix-rooms : tie.Need-array-share-prefix-rooms
-array-share-prefix-rooms c = let e : length (c .before .before .before .before .before .aim .result .rooms) ≡ 32 = search needs in omega (arith, few (c .before .before .before .before .before))
+array-share-prefix-rooms c = let e : length (c .before .before .before .before .before .aim .result .rooms) ≡ mostOutputs = search needs in omega (arith, few (c .before .before .before .before .before))
 
 slice-aggregate-weigh-2 : tie.Need-slice-aggregate-weigh-2
-slice-aggregate-weigh-2 c = let e : length (c .before .before .before .before .before .before .aim .result .rooms) ≡ 32 = search needs in sym (length-take-le _ _ (omega (arith, few (c .before .before .before .before .before .before))))
+slice-aggregate-weigh-2 c = let e : length (c .before .before .before .before .before .before .aim .result .rooms) ≡ mostOutputs = search needs in sym (length-take-le _ _ (omega (arith, few (c .before .before .before .before .before .before))))
 
 array-share-prefix-lows : tie.Need-array-share-prefix-lows
-array-share-prefix-lows c = let e : length (c .before .before .before .before .before .before .aim .result .lows) ≡ 32 = search needs in omega (arith, few (c .before .before .before .before .before .before))
+array-share-prefix-lows c = let e : length (c .before .before .before .before .before .before .aim .result .lows) ≡ mostOutputs = search needs in omega (arith, few (c .before .before .before .before .before .before))
 
 slice-aggregate-weigh-3 : tie.Need-slice-aggregate-weigh-3
-slice-aggregate-weigh-3 c = let e : length (c .before .before .before .before .before .before .before .aim .result .lows) ≡ 32 = search needs in sym (length-take-le _ _ (omega (arith, few (c .before .before .before .before .before .before .before))))
+slice-aggregate-weigh-3 c = let e : length (c .before .before .before .before .before .before .before .aim .result .lows) ≡ mostOutputs = search needs in sym (length-take-le _ _ (omega (arith, few (c .before .before .before .before .before .before .before))))
 
 weigh-requires : tie.Need-weigh-requires
 weigh-requires c κs =

@@ -6,6 +6,7 @@ use native.Mathlib.Omega.{arith}
 use borrow.Author.Needs.{needs}
 use lib.ListN.{length, getD, take, set, length-map}
 use Rattle.circuit.specs.Lines.{padded}
+use Rattle.circuit.specs.Sizes.{mostOutputs}
 use Rattle.circuit.proofs.Padding.{padded-none, padded-next, padded-all}
 use Rattle.distance.specs.Base.{weight}
 use Rattle.distance.proofs.Weight.{no-weight, weight-le}
@@ -14,13 +15,13 @@ use Rattle.builder.proofs.program.first_gaps.Statement.{statement}
 use Rattle.builder.proofs.program.first_gaps.Tie as tie
 
 abbrev Inv-loop : tie.InvT-loop
-Inv-loop n rows gaps₀ i₀ i-end gaps i = (i ≤ length rows) × (gaps ≡ padded 32 0 (take i (map (λ (t : ℕ). weight n t - 1) rows)))
+Inv-loop n rows gaps₀ i₀ i-end gaps i = (i ≤ length rows) × (gaps ≡ padded mostOutputs 0 (take i (map (λ (t : ℕ). weight n t - 1) rows)))
 
 abbrev μ-loop : tie.MeasureT-loop
 μ-loop n rows gaps₀ i₀ i-end gaps i = i-end - i
 
 loop-holds : tie.Need-loop-holds Inv-loop μ-loop
-loop-holds c = (search needs, sym (padded-none 32 0))
+loop-holds c = (search needs, sym (padded-none mostOutputs 0))
 
 shared-slice-read-weight-of : tie.Need-shared-slice-read-weight-of Inv-loop μ-loop
 shared-slice-read-weight-of c = search needs
@@ -50,12 +51,12 @@ loop-again c =
     let a = c .before .before .before .before .before .args in
     let i = c .before .before .before .loop .i in
     let n = length-map (a .rows .now) (λ (t : ℕ). weight (a .n) t - 1) in
-    (search needs, ap (λ (l : List ℕ). set l i (c .weight-of .result - 1)) (c .before .before .before .loop .inv .1) ∙ padded-next 32 0 (map (λ (t : ℕ). weight (a .n) t - 1) (a .rows .now)) i (c .weight-of .result - 1) (omega (arith, n, c .before .before .loop-test .taken)) (omega (arith, n, c .before .before .before .before .before .pre .few)) (ap (λ (x : ℕ). x - 1) (c .weight-of .ensures) ∙ sym (map-at (λ (t : ℕ). weight (a .n) t - 1) (a .rows .now) 0 i (c .before .before .loop-test .taken))))
+    (search needs, ap (λ (l : List ℕ). set l i (c .weight-of .result - 1)) (c .before .before .before .loop .inv .1) ∙ padded-next mostOutputs 0 (map (λ (t : ℕ). weight (a .n) t - 1) (a .rows .now)) i (c .weight-of .result - 1) (omega (arith, n, c .before .before .loop-test .taken)) (omega (arith, n, c .before .before .before .before .before .pre .few)) (ap (λ (x : ℕ). x - 1) (c .weight-of .ensures) ∙ sym (map-at (λ (t : ℕ). weight (a .n) t - 1) (a .rows .now) 0 i (c .before .before .loop-test .taken))))
 
 returns : tie.Need-returns Inv-loop μ-loop
 returns c =
     let a = c .before .before .before .args in
-    c .before .loop .inv .1 ∙ padded-all 32 0 (map (λ (t : ℕ). weight (a .n) t - 1) (a .rows .now)) (c .before .loop .i) (omega (arith, c .before .loop .inv .0, c .loop-test .left, length-map (a .rows .now) (λ (t : ℕ). weight (a .n) t - 1)))
+    c .before .loop .inv .1 ∙ padded-all mostOutputs 0 (map (λ (t : ℕ). weight (a .n) t - 1) (a .rows .now)) (c .before .loop .i) (omega (arith, c .before .loop .inv .0, c .loop-test .left, length-map (a .rows .now) (λ (t : ℕ). weight (a .n) t - 1)))
 
 pub first-gaps-spec : {M : Type 1} → statement M
 first-gaps-spec =

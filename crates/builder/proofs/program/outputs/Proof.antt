@@ -6,6 +6,7 @@ use native.Mathlib.Omega.{arith}
 use borrow.Author.Needs.{needs}
 use lib.ListN.{length, getD, take, set}
 use Rattle.circuit.specs.Lines.{padded}
+use Rattle.circuit.specs.Sizes.{mostOutputs}
 use Rattle.circuit.proofs.Padding.{padded-none, padded-next, padded-all}
 use Rattle.distance.specs.Base.{baseOf}
 use Rattle.builder.specs.Rule.{row, lowest}
@@ -15,13 +16,13 @@ use Rattle.builder.proofs.program.outputs.Statement.{statement}
 use Rattle.builder.proofs.program.outputs.Tie as tie
 
 abbrev Inv-loop : tie.InvT-loop
-Inv-loop masks depths rows limits outs₀ i₀ i-end outs i = (i ≤ length rows) × (outs ≡ padded 32 0 (take i (map (lowest (baseOf masks depths)) (rowsOf rows limits))))
+Inv-loop masks depths rows limits outs₀ i₀ i-end outs i = (i ≤ length rows) × (outs ≡ padded mostOutputs 0 (take i (map (lowest (baseOf masks depths)) (rowsOf rows limits))))
 
 abbrev μ-loop : tie.MeasureT-loop
 μ-loop masks depths rows limits outs₀ i₀ i-end outs i = i-end - i
 
 loop-holds : tie.Need-loop-holds Inv-loop μ-loop
-loop-holds c = (search needs, sym (padded-none 32 0))
+loop-holds c = (search needs, sym (padded-none mostOutputs 0))
 
 shared-slice-read-lowest : tie.Need-shared-slice-read-lowest Inv-loop μ-loop
 shared-slice-read-lowest c = search needs
@@ -34,6 +35,9 @@ lowest-requires c κs = c .before .before .before .before .before .before .befor
 
 cast-outs : tie.Need-cast-outs Inv-loop μ-loop
 cast-outs c = omega (arith, c .lowest .ensures, lowest-byte (c .before .before .before .before .before .before .before .before .before .args .masks .now) (c .before .before .before .before .before .before .before .before .before .args .depths .now) (row (getD (c .before .before .before .before .before .before .before .before .before .args .rows .now) (c .before .before .before .before .loop .i) 0) (getD (c .before .before .before .before .before .before .before .before .before .args .limits .now) (c .before .before .before .before .loop .i) 0)) (c .before .before .before .before .before .before .before .before .before .pre .0) (c .before .before .before .before .before .before .before .before .before .pre .1 .1 .1))
+
+mul-outs : tie.Need-mul-outs Inv-loop μ-loop
+mul-outs c = search needs
 
 array-write-outs : tie.Need-array-write-outs Inv-loop μ-loop
 array-write-outs c = omega (arith, c .before .before .before .loop-test .taken, c .before .before .before .before .before .before .before .before .before .pre .1 .1 .0)
@@ -49,12 +53,12 @@ loop-again c =
     let a = c .before .before .before .before .before .before .before .before .before .args in
     let i = c .before .before .before .before .loop .i in
     let n = outs-length (a .masks .now) (a .depths .now) (a .rows .now) (a .limits .now) (c .before .before .before .before .before .before .before .before .before .pre .1 .0) in
-    (search needs, ap (λ (l : List ℕ). set l i (c .lowest .result)) (c .before .before .before .before .loop .inv .1) ∙ padded-next 32 0 (map (lowest (baseOf (a .masks .now) (a .depths .now))) (rowsOf (a .rows .now) (a .limits .now))) i (c .lowest .result) (omega (arith, n, c .before .before .before .loop-test .taken)) (omega (arith, n, c .before .before .before .before .before .before .before .before .before .pre .1 .1 .0)) (c .lowest .ensures ∙ outs-at (a .masks .now) (a .depths .now) (a .rows .now) (a .limits .now) i (c .before .before .before .before .before .before .before .before .before .pre .1 .0) (c .before .before .before .loop-test .taken)))
+    (search needs, ap (λ (l : List ℕ). set l i (c .lowest .result)) (c .before .before .before .before .loop .inv .1) ∙ padded-next mostOutputs 0 (map (lowest (baseOf (a .masks .now) (a .depths .now))) (rowsOf (a .rows .now) (a .limits .now))) i (c .lowest .result) (omega (arith, n, c .before .before .before .loop-test .taken)) (omega (arith, n, c .before .before .before .before .before .before .before .before .before .pre .1 .1 .0)) (c .lowest .ensures ∙ outs-at (a .masks .now) (a .depths .now) (a .rows .now) (a .limits .now) i (c .before .before .before .before .before .before .before .before .before .pre .1 .0) (c .before .before .before .loop-test .taken)))
 
 returns : tie.Need-returns Inv-loop μ-loop
 returns c =
     let a = c .before .before .before .before .before .before .args in
-    c .before .loop .inv .1 ∙ padded-all 32 0 (map (lowest (baseOf (a .masks .now) (a .depths .now))) (rowsOf (a .rows .now) (a .limits .now))) (c .before .loop .i) (omega (arith, c .before .loop .inv .0, c .loop-test .left, outs-length (a .masks .now) (a .depths .now) (a .rows .now) (a .limits .now) (c .before .before .before .before .before .before .pre .1 .0)))
+    c .before .loop .inv .1 ∙ padded-all mostOutputs 0 (map (lowest (baseOf (a .masks .now) (a .depths .now))) (rowsOf (a .rows .now) (a .limits .now))) (c .before .loop .i) (omega (arith, c .before .loop .inv .0, c .loop-test .left, outs-length (a .masks .now) (a .depths .now) (a .rows .now) (a .limits .now) (c .before .before .before .before .before .before .pre .1 .0)))
 
 pub outputs-spec : {M : Type 1} → statement M
 outputs-spec =
@@ -67,6 +71,7 @@ outputs-spec =
     shared-slice-read-lowest-2
     lowest-requires
     cast-outs
+    mul-outs
     array-write-outs
     add-i
     loop-less
