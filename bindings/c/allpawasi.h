@@ -17,6 +17,9 @@
 #include <stddef.h>
 #include <stdint.h>
 
+/* How many outputs, gates and lines a circuit may have, and how many input values. */
+enum { ALLPAWASI_OUTPUTS = 32, ALLPAWASI_GATES = 248, ALLPAWASI_LINES = 256, ALLPAWASI_VALUES = 256 };
+
 typedef struct {
     uint64_t w0, w1, w2, w3; /* input value x at bit x % 64 of word x / 64 */
 } allpawasi_words;
@@ -26,17 +29,19 @@ typedef struct {
 typedef struct {
     bool is_open, is_matrix;
     size_t n, m, g;
-    uint8_t max_gates, max_depth, max_and_depth;
-    uint8_t kinds[248], left[248], right[248], outputs[32], target[256];
-    allpawasi_words wanted[32];
-    uint8_t depths[256], and_depths[256];
-    allpawasi_words values[256];
+    uint16_t max_gates, max_depth, max_and_depth;
+    uint8_t kinds[ALLPAWASI_GATES];
+    uint16_t left[ALLPAWASI_GATES], right[ALLPAWASI_GATES], outputs[ALLPAWASI_OUTPUTS];
+    uint8_t target[ALLPAWASI_VALUES];
+    allpawasi_words wanted[ALLPAWASI_OUTPUTS];
+    uint8_t depths[ALLPAWASI_LINES], and_depths[ALLPAWASI_LINES];
+    allpawasi_words values[ALLPAWASI_LINES];
 } allpawasi_bench;
 
 /* refusal: 0, or why. lines[0] to lines[count - 1] were examined again, in ascending order. */
 typedef struct {
     size_t refusal, count;
-    uint8_t lines[256];
+    uint16_t lines[ALLPAWASI_LINES];
 } allpawasi_edit;
 
 /* refusal: 0, or why. verdict: 0 pass, 1 wrong (at input and output), 2 over the gate limit, 3 over the depth limit,

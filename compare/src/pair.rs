@@ -22,8 +22,8 @@ fn widen<T>(answer: Result<T, u8>) -> Result<T, usize> {
     answer.map_err(usize::from)
 }
 
-fn lines(answer: Result<Vec<usize>, u8>) -> Result<Vec<u8>, usize> {
-    widen(answer).map(|list| list.into_iter().map(|line| line as u8).collect())
+fn lines(answer: Result<Vec<usize>, u8>) -> Result<Vec<u16>, usize> {
+    widen(answer).map(|list| list.into_iter().map(|line| line as u16).collect())
 }
 
 /// The independent program's limits, from ours.
@@ -96,7 +96,7 @@ impl Pair {
     }
 
     /// The lines that were reworked, or the refusal.
-    pub fn replace_gate(&mut self, [k, kind, a, b]: [usize; 4]) -> Result<Vec<u8>, usize> {
+    pub fn replace_gate(&mut self, [k, kind, a, b]: [usize; 4]) -> Result<Vec<u16>, usize> {
         let ours = self.ours.replace_gate(k, kind, a, b);
         let theirs = self.theirs.replace_gate(k as u64, kind as u64, a as u64, b as u64);
         self.same("gate", [k, kind, a, b], &ours, lines(theirs));

@@ -62,21 +62,21 @@ impl Bench {
     }
 
     /// Replaces gate k, and gives the lines that were examined again.
-    pub fn replace_gate(&mut self, k: usize, kind: usize, a: usize, b: usize) -> Result<Vec<u8>, Refusal> {
+    pub fn replace_gate(&mut self, k: usize, kind: usize, a: usize, b: usize) -> Result<Vec<u16>, Refusal> {
         reworked(raw::replace_gate(&mut self.0, k, kind, a, b))
     }
 
     /// Points output j at a line.
-    pub fn point_output(&mut self, j: usize, line: usize) -> Result<Vec<u8>, Refusal> {
+    pub fn point_output(&mut self, j: usize, line: usize) -> Result<Vec<u16>, Refusal> {
         reworked(raw::point_output(&mut self.0, j, line))
     }
 
     /// Changes row i of a matrix, or the entry of input value i of a table.
-    pub fn change_entry(&mut self, i: usize, value: usize) -> Result<Vec<u8>, Refusal> {
+    pub fn change_entry(&mut self, i: usize, value: usize) -> Result<Vec<u16>, Refusal> {
         reworked(raw::change_entry(&mut self.0, i, value))
     }
 
-    pub fn set_limits(&mut self, limits: Limits) -> Result<Vec<u8>, Refusal> {
+    pub fn set_limits(&mut self, limits: Limits) -> Result<Vec<u16>, Refusal> {
         reworked(raw::set_limits(&mut self.0, limits))
     }
 
@@ -142,7 +142,8 @@ fn counted(code: usize) -> Result<usize, Refusal> {
     if code < 65_536 { Ok(code) } else { Err(code / 65_536) }
 }
 
-fn reworked(edit: raw::Edit) -> Result<Vec<u8>, Refusal> {
+/// The lines' numbers are below 256, so that each is a byte.
+fn reworked(edit: raw::Edit) -> Result<Vec<u16>, Refusal> {
     accepted(edit.refusal)?;
     Ok(edit.lines[..edit.count].to_vec())
 }

@@ -2,6 +2,12 @@
 
 use crate::Limits;
 
+/// How many outputs, gates and lines a circuit may have, and how many input values.
+const OUTPUTS: usize = 32;
+const GATES: usize = 248;
+const LINES: usize = 256;
+const VALUES: usize = 256;
+
 /// A line's values: input value x at bit x % 64 of word x / 64.
 #[repr(C)]
 #[derive(Clone, Copy, Debug, PartialEq, Eq)]
@@ -14,25 +20,25 @@ pub struct Bench {
     pub n: usize,
     pub m: usize,
     pub g: usize,
-    pub max_gates: u8,
-    pub max_depth: u8,
-    pub max_and_depth: u8,
-    pub kinds: [u8; 248],
-    pub left: [u8; 248],
-    pub right: [u8; 248],
-    pub outputs: [u8; 32],
-    pub target: [u8; 256],
-    pub wanted: [Words; 32],
-    pub depths: [u8; 256],
-    pub and_depths: [u8; 256],
-    pub values: [Words; 256],
+    pub max_gates: u16,
+    pub max_depth: u16,
+    pub max_and_depth: u16,
+    pub kinds: [u8; GATES],
+    pub left: [u16; GATES],
+    pub right: [u16; GATES],
+    pub outputs: [u16; OUTPUTS],
+    pub target: [u8; VALUES],
+    pub wanted: [Words; OUTPUTS],
+    pub depths: [u8; LINES],
+    pub and_depths: [u8; LINES],
+    pub values: [Words; LINES],
 }
 
 #[repr(C)]
 pub struct Edit {
     pub refusal: usize,
     pub count: usize,
-    pub lines: [u8; 256],
+    pub lines: [u16; LINES],
 }
 
 #[repr(C)]
@@ -60,15 +66,15 @@ impl Bench {
             max_gates: 0,
             max_depth: 0,
             max_and_depth: 0,
-            kinds: [0; 248],
-            left: [0; 248],
-            right: [0; 248],
-            outputs: [0; 32],
-            target: [0; 256],
-            wanted: [Words([0; 4]); 32],
-            depths: [0; 256],
-            and_depths: [0; 256],
-            values: [Words([0; 4]); 256],
+            kinds: [0; GATES],
+            left: [0; GATES],
+            right: [0; GATES],
+            outputs: [0; OUTPUTS],
+            target: [0; VALUES],
+            wanted: [Words([0; 4]); OUTPUTS],
+            depths: [0; LINES],
+            and_depths: [0; LINES],
+            values: [Words([0; 4]); LINES],
         }
     }
 }

@@ -128,10 +128,15 @@ tells-some {f} {P} each (x ∷ xs) = tells-as into out (tells-or (each x) (tells
 -- ---- chains of tests
 
 -- a chain gives the number `f t` by its first test t, which fails exactly when the cause is there
+pub chain-under : (f : Bool → ℕ) {t : Bool} {cause : Type 0} {rest : ℕ → Type 0} → Fails t cause → (t ≡ true → GivenExactly (f true) rest)
+    → GivenExactly (f t) (first (f false) cause rest)
+chain-under f {t = true} {rest} x g = miss (f false) (f true) rest (x .not-else refl) (g refl)
+chain-under f {t = false} {rest} x g = hit (f false) rest (x .holds refl)
+
+-- where what follows needs no word of the test
 pub chain : (f : Bool → ℕ) {t : Bool} {cause : Type 0} {rest : ℕ → Type 0} → Fails t cause → GivenExactly (f true) rest
     → GivenExactly (f t) (first (f false) cause rest)
-chain f {t = true} {rest} x g = miss (f false) (f true) rest (x .not-else refl) g
-chain f {t = false} {rest} x g = hit (f false) rest (x .holds refl)
+chain f x g = chain-under f x (λ e. g)
 
 -- the same of a test that is true exactly when the cause is there
 pub chain-on : (f : Bool → ℕ) {t : Bool} {cause : Type 0} {rest : ℕ → Type 0} → Tells t cause → GivenExactly (f false) rest

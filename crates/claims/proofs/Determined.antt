@@ -5,7 +5,8 @@
 --             reader::{is_shape, check_gate, check_output, read}, restore::writing_code, and, in the first half of their promise, wide and refusal_no
 --   distance: distance, distance_no, refusal_no, table::cost
 --   builder:  plan
---   bench:    opening::empty, storing::circuit_of
+--   targets:  rules::{value_fits, target_fits}, wanted::{input_words, wanted_words}
+--   bench:    opening::empty, edits::is_standing, storing::circuit_of
 --   lent:     linked::allpawasi_distance
 --   text:     find, skip, read_number, all_hex, at_most, is_free, same, and, in the first half of their promise, nibble and trim
 -- A promise that says more has its own lemma:
@@ -16,7 +17,7 @@
 --   | distance table::take_in, table::fill                     | take-in-determined, fill-determined               |
 --   | builder build                                            | build-determined                                  |
 --   | builder build_no, linked::allpawasi_build                | build-number-determined                           |
---   | bench, lent, coded and lent linked:                      |                                                   |
+--   | bench, report, lent, coded and lent linked:              |                                                   |
 --   |   open_matrix, open_table                                | open-determined                                   |
 --   |   replace_gate                                           | replace-gate-determined                           |
 --   |   point_output                                           | point-output-determined                           |
@@ -29,23 +30,23 @@
 --   | listing put_counts, put_lines, put_refused               | put-determined                                    |
 --   | script call_in                                           | call-in-determined                                |
 --   | talk answer_line                                         | answer-line-determined                            |
--- Those of the bench are for answers given in any view: as they are (`asTheyAre`) by bench and lent, as numbers (`asNumbers`) by coded and linked.
+-- Those of the bench are for answers given in any view: as they are (`asTheyAre`) by bench, report and lent, as numbers (`asNumbers`) by coded and linked.
 use mathlib.Core.Path.{_≡_, sym, ap, _∙_}
 use mathlib.Core.Bool.{Bool}
 use mathlib.Core.List.{List}
 use Prim.Native.Nat.{ℕ, _-_, min}
 use lib.ListN.{length}
 use Rattle.circuit.specs.declared.Circuit.{Circuit}
-use Rattle.circuit.specs.declared.Writing.{Writing}
-use Rattle.circuit.specs.Writing.{Wrote, Restored}
-use Rattle.circuit.proofs.Back as writing
+use Rattle.stored.specs.declared.Writing.{Writing}
+use Rattle.stored.specs.Writing.{Wrote, Restored}
+use Rattle.stored.proofs.Written as writing
 use Rattle.distance.specs.Base.{Line}
 use Rattle.distance.specs.Table.{TakenIn, Filled}
 use Rattle.distance.proofs.Unique as distances
 use Rattle.builder.specs.Call.{Builds, BuildsNumbered}
 use Rattle.builder.proofs.Promise as building
+use Rattle.targets.specs.Target.{Target}
 use Rattle.bench.specs.declared.Bench.{Bench}
-use Rattle.bench.specs.Target.{Target}
 use Rattle.bench.specs.State.{Limits, Present}
 use Rattle.bench.specs.Held.{emptyBench, Stands}
 use Rattle.bench.specs.Calls.{View, OpenGiven, GateGiven, OutputGiven, EntryGiven, LimitsGiven, ReportGiven, StoreGiven}

@@ -6,9 +6,10 @@ use lib.ListN.{getD}
 use Rattle.circuit.specs.declared.Answer.the-variants.{Done, Refused}
 use Rattle.circuit.specs.declared.Refusal.the-variants.{TooShallow}
 use Rattle.circuit.specs.Gate.{countOf, tallyOf}
-use Rattle.circuit.specs.Lines.{reads, lines, upto, depthOf}
-use Rattle.circuit.specs.Stored.{stored, records, listingIn}
-use Rattle.circuit.specs.Reading.{refusalNo, shaped, secondFits, gateAnswer, outAnswer, gateRecord, outRecord, answers, bodyAnswer, readAnswer}
+use Rattle.circuit.specs.Lines.{reads, unread, lines, upto, depthOf, listing}
+use Rattle.circuit.specs.Rules.{refusalNo, shaped, operandsFit, gateAnswer, outAnswer, allOf}
+use Rattle.stored.specs.Stored.{stored, records, listingIn}
+use Rattle.stored.specs.Reading.{gateRecord, outRecord, answers, bodyAnswer, readAnswer}
 use Rattle.distance.specs.declared.Answer.{Answer as Distance}
 use Rattle.distance.specs.declared.Answer.the-variants.{Gates, Never}
 use Rattle.distance.specs.Base.{Line, xor, baseOf}
@@ -18,11 +19,11 @@ use Rattle.distance.proofs.Examples as distances
 use Rattle.builder.specs.Rule.{xorGate}
 use Rattle.builder.specs.Call.{built, refusal}
 use Rattle.builder.proofs.Examples as building
+use Rattle.targets.specs.Target.{matrix, table, rowFits, entryFits, targetFits}
 use Rattle.bench.specs.declared.Verdict.{Verdict}
 use Rattle.bench.specs.declared.Verdict.the-variants.{Wrong, OverDepth, Pass}
 use Rattle.bench.specs.declared.Reported.{Reported}
 use Rattle.bench.specs.declared.Reported.the-variants.{Given}
-use Rattle.bench.specs.Target.{matrix, table, rowFits, entryFits, allOf, targetFits}
 use Rattle.bench.specs.State.{least, verdictOf, reportOf, limits}
 use Rattle.bench.specs.Calls.{openAnswer, gateEditAnswer, outputEditAnswer, entryEditAnswer, placesFrom, sizeOf, gateEdit, reported}
 use Rattle.bench.specs.Run.{Call, presentAfter}
@@ -85,12 +86,12 @@ pub record Examples : Type 0 where
   pub K1 : stored (built 3 rows 2)
       ≡ 0x53 ∷ 0x48 ∷ 3 ∷ 3 ∷ 3 ∷ 0x47 ∷ 0x54 ∷ 0 ∷ 0 ∷ 1 ∷ 0x47 ∷ 0x54 ∷ 0 ∷ 2 ∷ 3 ∷ 0x47 ∷ 0x54 ∷ 0 ∷ 1 ∷ 2 ∷ 0x4F ∷ 0x50 ∷ 3 ∷ 0x4F ∷ 0x50 ∷ 4 ∷ 0x4F ∷ 0x50 ∷ 5 ∷ []
   -- K2: the same, D=3: the third gate is (0,4), depth 3
-  pub K2 : (built 3 rows 3 ≡ record { inputs = 3; gates = xorGate (xor 0 1) ∷ xorGate (xor 2 3) ∷ xorGate (xor 0 4) ∷ []; outs = 3 ∷ 4 ∷ 5 ∷ [] })
-      × (depthOf (record { inputs = 3; gates = xorGate (xor 0 1) ∷ xorGate (xor 2 3) ∷ xorGate (xor 0 4) ∷ []; outs = 3 ∷ 4 ∷ 5 ∷ [] }) ≡ 3)
+  pub K2 : (built 3 rows 3 ≡ listing 3 (xorGate (xor 0 1) ∷ xorGate (xor 2 3) ∷ xorGate (xor 0 4) ∷ []) (3 ∷ 4 ∷ 5 ∷ []))
+      × (depthOf (listing 3 (xorGate (xor 0 1) ∷ xorGate (xor 2 3) ∷ xorGate (xor 0 4) ∷ []) (3 ∷ 4 ∷ 5 ∷ [])) ≡ 3)
   -- K3: the same, D=1: refused 10
   pub K3 : (refusal 3 rows 1 ≡ Refused TooShallow) × (refusalNo TooShallow ≡ 10)
   -- K4: n=4, rows 7, 11, D=2: gates (0,1), (2,4), (3,4), outputs 5, 6
-  pub K4 : built 4 (7 ∷ 11 ∷ []) 2 ≡ record { inputs = 4; gates = xorGate (xor 0 1) ∷ xorGate (xor 2 4) ∷ xorGate (xor 3 4) ∷ []; outs = 5 ∷ 6 ∷ [] }
+  pub K4 : built 4 (7 ∷ 11 ∷ []) 2 ≡ listing 4 (xorGate (xor 0 1) ∷ xorGate (xor 2 4) ∷ xorGate (xor 3 4) ∷ []) (5 ∷ 6 ∷ [])
   -- K5: n=1, row 1, D=0
   pub K5 : stored (built 1 (1 ∷ []) 0) ≡ 0x53 ∷ 0x48 ∷ 1 ∷ 1 ∷ 0 ∷ 0x4F ∷ 0x50 ∷ 0 ∷ []
   -- none of K1, K2, K4 and K5 is refused
@@ -115,7 +116,7 @@ pub record Examples : Type 0 where
 
 -- K1 to K5 are computed where the rule is open, the distances of K6 and K7 where the distance is; the rest here.
 pub all-examples : Examples
-unfolding countOf tallyOf reads lines upto records listingIn shaped secondFits gateAnswer outAnswer gateRecord outRecord answers bodyAnswer readAnswer rowFits entryFits allOf targetFits lookAt answerOf least verdictOf reportOf openAnswer gateEditAnswer outputEditAnswer entryEditAnswer placesFrom sizeOf
+unfolding countOf tallyOf reads lines upto records listingIn shaped unread operandsFit gateAnswer outAnswer gateRecord outRecord answers bodyAnswer readAnswer rowFits entryFits allOf targetFits lookAt answerOf least verdictOf reportOf openAnswer gateEditAnswer outputEditAnswer entryEditAnswer placesFrom sizeOf
 all-examples =
     record {
       K1 = building.k1;

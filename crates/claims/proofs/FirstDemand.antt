@@ -11,18 +11,22 @@ use Rattle.circuit.specs.declared.Refusal.{Refusal}
 use Rattle.circuit.specs.declared.Refusal.the-variants.{Target as BadTarget, NoRoom, NotThere, Shape, Length, Mark, UnknownKind, Operand, NoLine, NotXor, TooDeep, TooShallow, NothingOpen}
 use Rattle.circuit.specs.declared.Answer.{Answer}
 use Rattle.circuit.specs.declared.Answer.the-variants.{Done, Refused}
-use Rattle.circuit.specs.declared.Writing.the-variants.{Written, NotWritten}
 use Rattle.circuit.specs.declared.Circuit.{Circuit}
-use Rattle.circuit.specs.declared.Reading.{Reading}
-use Rattle.circuit.specs.declared.Writing.{Writing}
 use Rattle.circuit.specs.Lines.{Listing}
-use Rattle.circuit.specs.Stored.{stored, listingIn, gateBytes, outBytes, listed}
-use Rattle.circuit.specs.Reading.{refusalNo, answerNo, unless, readAnswer, readStored, readingOf, listingAnswer}
-use Rattle.circuit.specs.Reading.Outcome.{found}
-use Rattle.circuit.specs.Writing.{writingNo, writeAnswer, roomAfter, Wrote, writingCode, intoRoom, restoreAnswer, Restored}
-use Rattle.circuit.proofs.Accept.{whole}
-use Rattle.circuit.proofs.Round.{gate-bytes-length, out-bytes-length, read-stored, stored-read}
-use Rattle.circuit.proofs.Restoring.{answer-of}
+use Rattle.circuit.specs.Structs.{listed}
+use Rattle.circuit.specs.Rules.{refusalNo, answerNo, unless, listingAnswer}
+use Rattle.circuit.proofs.RuleLaws.{circuit-fits}
+use Rattle.circuit.proofs.Shapes.{shape-is}
+use Rattle.stored.specs.declared.Writing.the-variants.{Written, NotWritten}
+use Rattle.stored.specs.declared.Reading.{Reading}
+use Rattle.stored.specs.declared.Writing.{Writing}
+use Rattle.stored.specs.Stored.{stored, listingIn, gateBytes, outBytes}
+use Rattle.stored.specs.Reading.{readAnswer, readStored, readingOf}
+use Rattle.stored.specs.Reading.Outcome.{found}
+use Rattle.stored.specs.Writing.{writingNo, writeAnswer, roomAfter, Wrote, writingCode, intoRoom, restoreAnswer, Restored}
+use Rattle.stored.proofs.Accept.{whole}
+use Rattle.stored.proofs.Round.{gate-bytes-length, out-bytes-length, read-stored, stored-read}
+use Rattle.stored.proofs.Restoring.{answer-of}
 use Rattle.distance.specs.declared.Refusal.the-variants.{Inputs, Lists, Mask, Depth}
 use Rattle.distance.specs.declared.Looked.{Looked}
 use Rattle.distance.specs.declared.Looked.the-variants.{Sound as Looks, Unsound}
@@ -32,19 +36,17 @@ use Rattle.distance.specs.Distance.{Gap, gates, never, distance, can, gapFrom}
 use Rattle.distance.specs.Query.{lookAt, answered, answerOf, distanceNo, distanceCode, queryRefusalNo, whereSound}
 use Rattle.distance.proofs.Refuse.{fit}
 use Rattle.builder.specs.Call.{built, refusal, buildAnswer, Builds, BuildsNumbered}
-use Rattle.builder.proofs.Refusals.{ranged}
 use Rattle.builder.proofs.Refusals as building
 use Rattle.builder.proofs.Promise.{built-few, built-outs}
+use Rattle.targets.specs.Target.{Target, isMatrix}
 use Rattle.bench.specs.declared.Bench.{Bench}
 use Rattle.bench.specs.declared.Edit.{Edit}
 use Rattle.bench.specs.declared.Reported.{Reported}
-use Rattle.bench.specs.Target.{Target, isMatrix}
 use Rattle.bench.specs.State.{State, Present, nothing, present, Limits, SoundPresent}
 use Rattle.bench.specs.Calls.{after, openAnswer, openState, gateEditAnswer, gateEdited, outputEditAnswer, outputEdited, entryEditAnswer, entryEdited, limitsAnswer, storeAnswer, gateEdit, editBy, readersOf, noRework, storedOf, View, benchAfterOpen, OpenPromise, GatePromise, OutputPromise, EntryPromise, LimitsPromise, ReportPromise, StorePromise}
 use Rattle.bench.specs.Run.{Call, afterCall, presentAfter, StepGiven, Runs}
 use Rattle.bench.specs.Run.Call.{opening, replacing, pointing, changing, limiting, reporting, storing}
 use Rattle.bench.specs.Held.{emptyBench, benchOf, Stands}
-use Rattle.bench.proofs.Standing.{circuit-fits}
 use Rattle.bench.proofs.SoundLaws.{Callable}
 use Rattle.bench.proofs.RunLaws.{after-calls, step-exists}
 use Rattle.coded.specs.declared.EditNumbers.{EditNumbers}
@@ -184,7 +186,7 @@ restore-numbered only s room r out h =
     small k e = by (readAnswer only s) refl e
       where
         by : (a : Answer) → readAnswer only s ≡ a → intoRoom a (length s) (length room) ≡ Written k → k < 65536
-        by Done q e = let w = whole only s q in omega (arith, written-size (leb (length s) (length room)) (length s) k e, w .m32, w .g248, w .long)
+        by Done q e = let w = whole only s q in omega (arith, written-size (leb (length s) (length room)) (length s) k e, w .m-most, w .g-most, w .long)
         by (Refused w) q e = let z : _≡_ {A = ℕ} 0 1 = cc in absurd (omega arith)
 
 -- Build: 1, 8, 9, 10, 11.
@@ -209,7 +211,7 @@ build-numbered n ts D room r out h =
         by : (a : Answer) → refusal n ts D ≡ a → intoRoom a (length (stored (built n ts D))) (length room) ≡ Written k → k < 65536
         by Done q e =
             let c = built n ts D in
-            let few = ranged n (length ts) 0 (building.accepted n ts D q .shape) .few in
+            let few = shape-is n (length ts) 0 (building.accepted n ts D q .shape) .m-most in
             omega (arith, written-size (leb (length (stored c)) (length room)) (length (stored c)) k e, stored-length c, built-few n ts D, built-outs n ts D, few)
         by (Refused w) q e = let z : _≡_ {A = ℕ} 0 1 = cc in absurd (omega arith)
 
@@ -378,4 +380,4 @@ module _ {b : Bench} {calls : List Call} (run : Runs emptyBench calls b) where
       small nothing ok k e = let z : _≡_ {A = ℕ} 0 1 = cc in absurd (omega arith)
       small (present s) ok k e =
           let f = circuit-fits (isMatrix (s .target)) (s .circuit) (ok .circuit) .shape in
-          omega (arith, written-size (leb (length (stored (s .circuit))) (length room)) (length (stored (s .circuit))) k e, stored-length (s .circuit), f .g248, f .m32)
+          omega (arith, written-size (leb (length (stored (s .circuit))) (length room)) (length (stored (s .circuit))) k e, stored-length (s .circuit), f .g-most, f .m-most)

@@ -6,19 +6,26 @@ use mathlib.Core.List.{List, [], _∷_, map}
 use Prim.Native.Nat.{ℕ, zero, suc, _+_, _*_, _^_, _≤_, _<_}
 use native.Mathlib.Nat.{add-zero}
 use native.Mathlib.Omega.{arith}
-use lib.Dec.{leb, ltb, eqb}
+use borrow.Author.Tests.{leb-true}
+use lib.Dec.{leb, eqb}
 use lib.ListN.{length, getD, drop}
 use lib.Seq.{getD-drop, drop-drop}
 use Rattle.circuit.specs.declared.Refusal.{Refusal}
-use Rattle.circuit.specs.declared.Refusal.the-variants.{Target as BadTarget, NoRoom, NotThere}
+use Rattle.circuit.specs.declared.Refusal.the-variants.{UnknownKind, Operand, NotXor, Target as BadTarget, NoRoom, NotThere}
 use Rattle.circuit.specs.declared.Answer.{Answer}
 use Rattle.circuit.specs.declared.Answer.the-variants.{Done, Refused}
-use Rattle.circuit.specs.declared.Writing.the-variants.{Written, NotWritten}
-use Rattle.circuit.specs.Lines.{Listing, anyOf}
-use Rattle.circuit.specs.Stored.{stored, listingIn, outIn}
-use Rattle.circuit.specs.Reading.{refusalNo, answerNo, andThen, unless, shaped, secondFits, gateAnswer, outAnswer, gateRecord, outRecord, gateHere, outHere, answers, bodyAnswer, readAnswer}
-use Rattle.circuit.specs.Writing.{writingNo, intoRoom}
-use Rattle.circuit.proofs.Records.{records-length}
+use Rattle.circuit.specs.Gate.{kindOf, allowed}
+use Rattle.circuit.specs.Lines.{Gate, Listing, gate, anyOf}
+use Rattle.circuit.specs.Rules.{refusalNo, answerNo, andThen, unless, shaped, operandsFit, gateAnswer, outAnswer, allOf}
+use Rattle.circuit.specs.Sizes.{mostInputs, mostOutputs, mostGates}
+use Rattle.circuit.proofs.GateLaws.{allowed-number}
+use Rattle.circuit.proofs.Operands.{by-operands}
+use Rattle.circuit.proofs.RuleLaws.{two-fit, one-fits}
+use Rattle.stored.specs.declared.Writing.the-variants.{Written, NotWritten}
+use Rattle.stored.specs.Stored.{stored, listingIn, outIn}
+use Rattle.stored.specs.Reading.{gateRecord, outRecord, gateHere, outHere, answers, bodyAnswer, readAnswer}
+use Rattle.stored.specs.Writing.{writingNo, intoRoom}
+use Rattle.stored.proofs.Records.{records-length}
 use Rattle.distance.specs.declared.Refusal.the-variants.{Inputs, Lists, Mask, Depth}
 use Rattle.distance.specs.declared.Looked.{Looked}
 use Rattle.distance.specs.declared.Looked.the-variants.{Sound as Looks}
@@ -26,39 +33,55 @@ use Rattle.distance.specs.Base.{baseOf, weight}
 use Rattle.distance.specs.Distance.{Gap, gates, never, distance}
 use Rattle.distance.specs.Query.{anyFrom, badLists, badMask, badDepth, refuse, lookAt, answered, answerOf, distanceNo, whereSound}
 use Rattle.builder.specs.Call.{built, badRow, tooHeavy, refusal, buildAnswer}
-use Rattle.bench.specs.Target.{Target, matrix, table, isMatrix, rowFits, entryFits, allOf, targetFits}
+use Rattle.targets.specs.Target.{Target, matrix, table, isMatrix, rowFits, entryFits, targetFits}
 use Rattle.bench.specs.State.{Present, nothing, present}
 use Rattle.bench.specs.Calls.{openAnswer, gateEditAnswer, outputEditAnswer, entryAnswer, entryEditAnswer, limitsAnswer, reported, storeAnswer}
-use Rattle.claims.proofs.Causes.{first, accepted, GivenExactly, Some, none-left, Tells, Fails, fails-as, fails-where-not, not-fails, not-tells, tells-or, tells-lt, tells-le, tells-eq, fails-and, fails-lt, fails-le, tells-some, chain, chain-on}
 use Rattle.coded.specs.Coded.{reportedCode}
-use Rattle.claims.proofs.Tables.{OutOfRange, gateTable, BadRow, BrokenTarget, recordsTable, gateRecordTable, outRecordTable, bodyTable, readTable, openTable, replaceTable, pointTable, entryCauses, changeTable, openOnly, storeTable, buildTable, distanceTable}
+use Rattle.claims.proofs.Causes.{first, accepted, GivenExactly, Some, none-left, Tells, Fails, fails-as, fails-where-not, not-fails, not-tells, tells-or, tells-lt, tells-le, tells-eq, fails-and, fails-lt, fails-le, tells-some, chain-under, chain, chain-on}
+use Rattle.claims.proofs.Tables.{OutOfRange, BadOperand, gateTable, BadRow, BrokenTarget, recordsTable, gateRecordTable, outRecordTable, bodyTable, readTable, openTable, replaceTable, pointTable, entryCauses, changeTable, openOnly, storeTable, buildTable, distanceTable}
 
 pub range-law : (n m g : ℕ) → Fails (shaped n m g) (OutOfRange n m g)
 unfolding shaped
-range-law n m g = fails-and (fails-le 1 n) (fails-and (fails-le n 8) (fails-and (fails-le 1 m) (fails-and (fails-le m 32) (fails-le g 248))))
+range-law n m g = fails-and (fails-le 1 n) (fails-and (fails-le n mostInputs) (fails-and (fails-le 1 m) (fails-and (fails-le m mostOutputs) (fails-le g mostGates))))
 
 mark-law : (a b p q : ℕ) → Fails (eqb a p && eqb b q) ((a ≡ p → ⊥) ⊎ (b ≡ q → ⊥))
 mark-law a b p q = fails-and (fails-where-not (tells-eq a p)) (fails-where-not (tells-eq b q))
 
-second-law : (line kind b : ℕ) → Fails (secondFits line kind b) (((kind ≡ 6) × (b ≡ 0 → ⊥)) ⊎ ((kind ≡ 6 → ⊥) × (line ≤ b)))
-unfolding secondFits
-second-law line kind b = by (eqb kind 6) (tells-eq kind 6)
+-- the operands of a known kind: NOT reads one, the others two
+operand-law : (line kind a b : ℕ) → kind ≤ 6 → Fails (operandsFit line (gate kind a b)) (BadOperand line kind a b)
+operand-law line kind a b k =
+    by-operands (λ (q : Gate). q .kind ≤ 6 → Fails (operandsFit line q) (BadOperand line (q .kind) (q .left) (q .right))) (gate kind a b) two one k
   where
-    by : (t : Bool) → Tells t (kind ≡ 6) → Fails (cond t (eqb b 0) (ltb b line)) (((kind ≡ 6) × (b ≡ 0 → ⊥)) ⊎ ((kind ≡ 6 → ⊥) × (line ≤ b)))
-    by true x = fails-as (λ h. inl (x .holds refl, h)) back (fails-where-not (tells-eq b 0))
+    two : kind ≤ 5 → kind ≤ 6 → Fails (operandsFit line (gate kind a b)) (BadOperand line kind a b)
+    two h k = subst (λ (t : Bool). Fails t (BadOperand line kind a b)) (sym (two-fit line (gate kind a b) h)) (fails-as into back (fails-and (fails-lt a line) (fails-lt b line)))
       where
-        back : ((kind ≡ 6) × (b ≡ 0 → ⊥)) ⊎ ((kind ≡ 6 → ⊥) × (line ≤ b)) → b ≡ 0 → ⊥
-        back (inl h) = h .1
-        back (inr h) = absurd (h .0 (x .holds refl))
-    by false x = fails-as (λ h. inr (x .not-else refl, h)) back (fails-lt b line)
-      where
-        back : ((kind ≡ 6) × (b ≡ 0 → ⊥)) ⊎ ((kind ≡ 6 → ⊥) × (line ≤ b)) → line ≤ b
-        back (inl h) = absurd (x .not-else refl (h .0))
-        back (inr h) = h .1
+        into : (line ≤ a) ⊎ (line ≤ b) → BadOperand line kind a b
+        into (inl x) = inl x
+        into (inr x) = inr (inr ((λ e. absurd (omega arith)), x))
 
-only-law : (only : Bool) (kind : ℕ) → Fails (not only || eqb kind 0) ((only ≡ true) × (kind ≡ 0 → ⊥))
-only-law true kind = fails-as (λ h. (refl, h)) (λ h. h .1) (fails-where-not (tells-eq kind 0))
-only-law false kind = record { holds = λ e. absurd (true≢false e); not-else = λ e h. true≢false (sym (h .0)) }
+        back : BadOperand line kind a b → (line ≤ a) ⊎ (line ≤ b)
+        back (inl x) = inl x
+        back (inr (inl x)) = let e = x .0 in absurd (omega arith)
+        back (inr (inr x)) = inr (x .1)
+
+    one : 6 ≤ kind → kind ≤ 6 → Fails (operandsFit line (gate kind a b)) (BadOperand line kind a b)
+    one h k = subst (λ (t : Bool). Fails t (BadOperand line kind a b)) (sym (one-fits line (gate kind a b) h)) (fails-as into back (fails-and (fails-lt a line) (fails-where-not (tells-eq b 0))))
+      where
+        into : (line ≤ a) ⊎ (b ≡ 0 → ⊥) → BadOperand line kind a b
+        into (inl x) = inl x
+        into (inr x) = inr (inl (omega arith, x))
+
+        back : BadOperand line kind a b → (line ≤ a) ⊎ (b ≡ 0 → ⊥)
+        back (inl x) = inl x
+        back (inr (inl x)) = inr (x .1)
+        back (inr (inr x)) = let e : kind ≡ 6 = omega arith in absurd (x .0 e)
+
+only-law : (only : Bool) (kind : ℕ) → Fails (allowed only (kindOf kind)) ((only ≡ true) × (kind ≡ 0 → ⊥))
+only-law only kind = subst (λ (t : Bool). Fails t ((only ≡ true) × (kind ≡ 0 → ⊥))) (sym (allowed-number only kind)) (by only)
+  where
+    by : (only : Bool) → Fails (not only || eqb kind 0) ((only ≡ true) × (kind ≡ 0 → ⊥))
+    by true = fails-as (λ h. (refl, h)) (λ h. h .1) (fails-where-not (tells-eq kind 0))
+    by false = record { holds = λ e. absurd (true≢false e); not-else = λ e h. true≢false (sym (h .0)) }
 
 row-law : (n row : ℕ) → Fails (rowFits n row) (BadRow n row)
 unfolding rowFits
@@ -108,9 +131,12 @@ then-then Done b c = refl
 then-then (Refused w) b c = refl
 
 module _ {rest : ℕ → Type 0} (next : Answer) (g : GivenExactly (answerNo next) rest) where
-  gate-law : (only : Bool) (line kind a b : ℕ) → GivenExactly (answerNo (andThen (gateAnswer only line kind a b) next)) (gateTable only line kind a b rest)
+  gate-law : (only : Bool) (line kind a b : ℕ) → GivenExactly (answerNo (andThen (gateAnswer only line (gate kind a b)) next)) (gateTable only line kind a b rest)
   unfolding gateAnswer
-  gate-law only line kind a b = test _ _ _ (fails-le kind 6) (test _ _ _ (fails-and (fails-lt a line) (second-law line kind b)) (test _ _ _ (only-law only kind) g))
+  gate-law only line kind a b =
+      let operands = unless (operandsFit line (gate kind a b)) Operand (unless (allowed only (kindOf kind)) NotXor Done) in
+      chain-under (λ t. answerNo (andThen (unless t UnknownKind operands) next)) (fails-le kind 6)
+      (λ e. test _ _ _ (operand-law line kind a b (leb-true kind 6 e)) (test _ _ _ (only-law only kind) g))
 
   out-law : (lines line : ℕ) → GivenExactly (answerNo (andThen (outAnswer lines line) next)) (first 6 (lines ≤ line) rest)
   unfolding outAnswer
@@ -179,8 +205,8 @@ replace-law nothing k kind a b = λ n. (sym, sym)
 replace-law (present s) k kind a b =
     let only = isMatrix (s .target) in
     let line = s .circuit .inputs + k in
-    chain (λ t. answerNo (unless t NotThere (gateAnswer only line kind a b))) (fails-lt k (length (s .circuit .gates)))
-    (subst (λ (x : Answer). GivenExactly (answerNo x) (gateTable only line kind a b accepted)) (done-last (gateAnswer only line kind a b))
+    chain (λ t. answerNo (unless t NotThere (gateAnswer only line (gate kind a b)))) (fails-lt k (length (s .circuit .gates)))
+    (subst (λ (x : Answer). GivenExactly (answerNo x) (gateTable only line kind a b accepted)) (done-last (gateAnswer only line (gate kind a b)))
     (gate-law Done none-left only line kind a b))
 
 pub point-law : (p : Present) (j line : ℕ) → GivenExactly (answerNo (outputEditAnswer p j line)) (pointTable p j line)

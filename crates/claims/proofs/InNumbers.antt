@@ -4,10 +4,10 @@ use mathlib.Core.List.{List, _∷_}
 use Prim.Native.Nat.{ℕ, _/_}
 use Rattle.circuit.specs.declared.Answer.{Answer}
 use Rattle.circuit.specs.declared.Answer.the-variants.{Done, Refused}
-use Rattle.circuit.specs.Reading.{answerNo}
+use Rattle.circuit.specs.Rules.{answerNo}
+use Rattle.targets.specs.Target.{Target}
 use Rattle.bench.specs.declared.Bench.{Bench}
 use Rattle.bench.specs.declared.Edit.{Edit}
-use Rattle.bench.specs.Target.{Target}
 use Rattle.bench.specs.State.{Limits, State, Present, nothing, present}
 use Rattle.bench.specs.Held.{emptyBench, benchOf, Stands}
 use Rattle.bench.specs.Calls.{openAnswer, gateEdit, afterGate, readersOf, sizeOf, noRework, outputEditAnswer, afterOutput, entryEditAnswer, afterEntry, limitsAnswer, afterLimits, reported}

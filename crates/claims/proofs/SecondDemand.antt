@@ -5,9 +5,9 @@ use mathlib.Core.Bool.{Bool, true, false, cond}
 use mathlib.Core.Logic.{_↔_, inl, inr, ⊎-elim}
 use mathlib.Core.List.{List, [], _∷_, _++_, map}
 use Prim.Native.Nat.{ℕ, zero, suc, _+_, _-_, _%_, _^_, _≤_, _<_, min}
-use native.Mathlib.Nat.{div-eq-of-lt, eq-or-lt-of-le}
+use native.Mathlib.Nat.{eq-or-lt-of-le}
 use native.Mathlib.Omega.{arith}
-use lib.Bits.{bitAnd, differ}
+use lib.Bits.{differ}
 use lib.Dec.{leb}
 use lib.ListN.{length, getD, take, drop, replicate}
 use lib.Pow.{pow-mono}
@@ -15,15 +15,16 @@ use lib.Seq.{take-at, drop-at}
 use Rattle.circuit.specs.declared.Refusal.the-variants.{TooShallow, NoRoom}
 use Rattle.circuit.specs.declared.Answer.{Answer}
 use Rattle.circuit.specs.declared.Answer.the-variants.{Done, Refused}
-use Rattle.circuit.specs.declared.Writing.{Writing}
-use Rattle.circuit.specs.declared.Writing.the-variants.{Written, NotWritten}
-use Rattle.circuit.specs.Gate.{bit, parity}
-use Rattle.circuit.specs.Lines.{Listing, gateAt, greatest, andStep, depthOf, andDepthOf, outputOn, anyOf, lines}
-use Rattle.circuit.specs.Stored.{stored}
-use Rattle.circuit.specs.Reading.{shaped, readStored}
-use Rattle.circuit.specs.Reading.Outcome.{found}
-use Rattle.circuit.specs.Writing.{roomAfter, intoRoom}
-use Rattle.circuit.proofs.GateLaws.{bit-lt, bit-and}
+use Rattle.circuit.specs.Gate.{bit, rowOn}
+use Rattle.circuit.specs.Lines.{Listing, gateAt, greatest, andStep, depthOf, andDepthOf, outputOn, anyOf, lines, listing}
+use Rattle.circuit.specs.Rules.{shaped}
+use Rattle.circuit.proofs.GateLaws.{bit-lt, bit-and, bit-above, differ-sum}
+use Rattle.stored.specs.declared.Writing.{Writing}
+use Rattle.stored.specs.declared.Writing.the-variants.{Written, NotWritten}
+use Rattle.stored.specs.Stored.{stored}
+use Rattle.stored.specs.Reading.{readStored}
+use Rattle.stored.specs.Reading.Outcome.{found}
+use Rattle.stored.specs.Writing.{roomAfter, intoRoom}
 use Rattle.distance.specs.declared.Refusal.{Refusal as QueryRefusal}
 use Rattle.distance.specs.declared.Refusal.the-variants.{Inputs, Lists, Mask, Depth}
 use Rattle.distance.specs.declared.Looked.{Looked}
@@ -43,19 +44,19 @@ use Rattle.builder.proofs.Begin.{inputs-length}
 use Rattle.builder.proofs.Values.{lines-whole}
 use Rattle.builder.proofs.Solved.{sound-circuit}
 use Rattle.builder.proofs.Theorems as building
+use Rattle.targets.specs.Target.{matrix, table, wants}
 use Rattle.bench.specs.declared.Bench.{Bench}
 use Rattle.bench.specs.declared.Place.{Place}
 use Rattle.bench.specs.declared.Verdict.the-variants.{Wrong, Pass}
 use Rattle.bench.specs.declared.Reported.{Reported}
 use Rattle.bench.specs.declared.Reported.the-variants.{Given}
-use Rattle.bench.specs.Target.{matrix, table, wants}
-use Rattle.bench.specs.State.{Limits, State, present, reportOf, Sound}
+use Rattle.bench.specs.State.{Limits, State, state, present, reportOf, Sound, LimitsFit}
 use Rattle.bench.specs.Held.{emptyBench}
 use Rattle.bench.specs.Calls.{openAnswer, reported, ReportPromise}
-use Rattle.bench.specs.Run.{Call, presentAfter, Runs, ByteLimits}
+use Rattle.bench.specs.Run.{Call, presentAfter, Runs}
 use Rattle.bench.specs.Run.Call.{opening}
-use Rattle.bench.proofs.PassLaws.{Right, FirstWrong, pass-right, right-pass, wrong-first, first-wrong}
 use Rattle.bench.proofs.RunLaws.{report-after-calls, opens, opens-as}
+use Rattle.report.proofs.PassLaws.{Right, FirstWrong, pass-right, right-pass, wrong-first, first-wrong}
 use Rattle.claims.proofs.Causes.{Some, Tells, tells-some, passes, silent}
 use Rattle.claims.proofs.Tables.{OutOfRange, BadRow, BrokenTarget}
 use Rattle.claims.proofs.Following.{range-law, target-law, row-tells, heavy-tells}
@@ -67,24 +68,15 @@ abbrev pub onesIn : ℕ → ℕ → ℕ → ℕ
 onesIn zero t x = 0
 onesIn (suc k) t x = onesIn k t x + min (bit k t) (bit k x)
 
-differ-sum : (a b : ℕ) → a < 2 → b < 2 → differ a b ≡ (a + b) % 2
-differ-sum zero zero p q = refl
-differ-sum zero (suc zero) p q = refl
-differ-sum (suc zero) zero p q = refl
-differ-sum (suc zero) (suc zero) p q = refl
-differ-sum zero (suc (suc b)) p q = absurd (omega arith)
-differ-sum (suc zero) (suc (suc b)) p q = absurd (omega arith)
-differ-sum (suc (suc a)) b p q = absurd (omega arith)
-
-parity-sum : (k t x : ℕ) → parity k (bitAnd t x) ≡ onesIn k t x % 2
-parity-sum zero t x = refl
-parity-sum (suc k) t x =
-    ap₂ differ (parity-sum k t x) (bit-and k t x)
+row-sum : (k t x : ℕ) → rowOn k t x ≡ onesIn k t x % 2
+row-sum zero t x = refl
+row-sum (suc k) t x =
+    ap₂ differ (row-sum k t x) (bit-and k t x)
     ∙ differ-sum (onesIn k t x % 2) (min (bit k t) (bit k x)) (omega arith) (omega (arith, bit-lt k t))
     ∙ omega arith
 
 pub matrix-wants : (rows : List ℕ) (x j : ℕ) → wants (matrix rows) x j ≡ onesIn 8 (getD rows j 0) x % 2
-matrix-wants rows x j = parity-sum 8 (getD rows j 0) x
+matrix-wants rows x j = row-sum 8 (getD rows j 0) x
 
 -- What a table asks: bit j of the entry.
 pub table-wants : (entries : List ℕ) (x j : ℕ) → wants (table entries) x j ≡ bit j (getD entries x 0)
@@ -167,7 +159,7 @@ pub record BuiltRight (n : ℕ) (ts : List ℕ) (D : ℕ) (c : Listing) : Type 0
 
 module _ (n : ℕ) (ts : List ℕ) (D : ℕ) where
   -- The builder follows the published greedy rule: its gates are those that the rule takes, and each output names its row's lowest line within D.
-  pub follows-rule : built n ts D ≡ record { inputs = n; gates = map xorGate (taken (inputs n) (within D ts)); outs = map (lowest (run (inputs n) (taken (inputs n) (within D ts)))) (within D ts) }
+  pub follows-rule : built n ts D ≡ listing n (map xorGate (taken (inputs n) (within D ts))) (map (lowest (run (inputs n) (taken (inputs n) (within D ts)))) (within D ts))
   unfolding built greedyCircuit
   follows-rule = refl
 
@@ -196,7 +188,7 @@ module _ (n : ℕ) (ts : List ℕ) (D : ℕ) where
           inputs-are = built-inputs n ts D;
           outputs-are = built-outs n ts D;
           only-xor = building.only-xor n ts D ok;
-          computes = λ x j h. building.computes-matrix n ts D ok x j h ∙ parity-sum n (getD ts j 0) x;
+          computes = λ x j h. building.computes-matrix n ts D ok x j h ∙ row-sum n (getD ts j 0) x;
           shallow = building.depth-within n ts D ok;
           linear = no-and-depth;
           few = building.few-gates n ts D ok;
@@ -284,20 +276,17 @@ module _ (n : ℕ) (ts : List ℕ) (D : ℕ) (range : OutOfRange n (length ts) 0
 
 -- ---- The builder and the bench agree: what was built, opened with its matrix, passes wherever the limits allow its gates and depth.
 
-bits-above : (k t : ℕ) → t < 2 ^ k → bit k t ≡ 0
-bits-above k t h = ap (λ (u : ℕ). u % 2) (div-eq-of-lt h)
-
 ones-stop : (k n t x : ℕ) → n ≤ k → t < 2 ^ n → onesIn k t x ≡ onesIn n t x
 ones-stop zero n t x h b = ap (λ (j : ℕ). onesIn j t x) (let z : 0 ≡ n = omega arith in z)
 ones-stop (suc k) n t x h b =
     ⊎-elim
     (λ e. ap (λ (j : ℕ). onesIn j t x) (sym e))
-    (λ l. let p : n ≤ k = omega arith in let z = bits-above k t (omega (arith, pow-mono p)) in let q = ones-stop k n t x p b in omega (arith, q, z))
+    (λ l. let p : n ≤ k = omega arith in let z = bit-above k t (omega (arith, pow-mono p)) in let q = ones-stop k n t x p b in omega (arith, q, z))
     (eq-or-lt-of-le {n = n} {m = suc k} h)
 
-module _ (n : ℕ) (ts : List ℕ) (D : ℕ) (ok : refusal n ts D ≡ Done) (l : Limits) (small : ByteLimits l) where
+module _ (n : ℕ) (ts : List ℕ) (D : ℕ) (ok : refusal n ts D ≡ Done) (l : Limits) (small : LimitsFit l) where
   abbrev opened : State
-  opened = record { circuit = built n ts D; target = matrix ts; limits = l }
+  opened = state (built n ts D) (matrix ts) l
 
   sound-opened : Sound opened
   sound-opened =
@@ -305,9 +294,7 @@ module _ (n : ℕ) (ts : List ℕ) (D : ℕ) (ok : refusal n ts D ≡ Done) (l :
       record {
         circuit = sound-circuit n ts D a;
         target = passes (target-law (built n ts D .inputs) (length (built n ts D .outs)) (matrix ts)) unbroken;
-        gates = small .gates;
-        depth = small .depth;
-        andDepth = small .andDepth;
+        limits = small;
       }
     where
       unbroken : BrokenTarget (built n ts D .inputs) (length (built n ts D .outs)) (matrix ts) → ⊥
@@ -330,7 +317,7 @@ module _ (n : ℕ) (ts : List ℕ) (D : ℕ) (ok : refusal n ts D ≡ Done) (l :
             equal = λ x j hx hj.
                 b .computes x j (subst (λ (m : ℕ). j < m) (built-outs n ts D) hj)
                 ∙ ap (λ (k : ℕ). k % 2) (sym (ones-stop 8 n (getD ts j 0) x (f .inputs) (f .below j)))
-                ∙ sym (parity-sum 8 (getD ts j 0) x);
+                ∙ sym (row-sum 8 (getD ts j 0) x);
             gates = g;
             depth = d;
             andDepth = omega (arith, b .linear);

@@ -6,12 +6,12 @@ use mathlib.Core.List.{List}
 use Prim.Native.Nat.{ℕ, zero, suc, _+_, _*_, _^_, _≤_, _<_}
 use lib.ListN.{length, getD}
 use Rattle.circuit.specs.Lines.{Listing}
-use Rattle.circuit.specs.Stored.{stored}
-use Rattle.circuit.specs.Reading.{answerNo}
-use Rattle.circuit.specs.Writing.{writingNo}
+use Rattle.circuit.specs.Rules.{answerNo}
+use Rattle.stored.specs.Stored.{stored}
+use Rattle.stored.specs.Writing.{writingNo}
 use Rattle.distance.specs.Base.{weight}
 use Rattle.builder.specs.Call.{built}
-use Rattle.bench.specs.Target.{Target, matrix, table, isMatrix}
+use Rattle.targets.specs.Target.{Target, matrix, table, isMatrix}
 use Rattle.bench.specs.State.{State, Present, nothing, present}
 use Rattle.bench.specs.Calls.{openAnswer, gateEditAnswer, outputEditAnswer, entryEditAnswer, limitsAnswer, reported, storeAnswer}
 use Rattle.bench.specs.Run.{Call}

@@ -13,19 +13,20 @@ use Rattle.circuit.specs.declared.Answer.the-variants.{Done, Refused}
 use Rattle.circuit.specs.declared.Words.{Words}
 use Rattle.circuit.specs.Gate.{noWords, valueIn}
 use Rattle.circuit.specs.Lines.{Listing, gateAt, depths, andDepths, values, words, padded}
-use Rattle.circuit.specs.Stored.{stored}
+use Rattle.circuit.specs.Sizes.{mostLines}
 use Rattle.circuit.proofs.WordLaws.{words-values}
 use Rattle.circuit.proofs.Padding.{pad-read}
+use Rattle.circuit.proofs.RuleLaws.{circuit-fits}
+use Rattle.stored.specs.Stored.{stored}
+use Rattle.targets.specs.Target.{Target, isMatrix}
 use Rattle.bench.specs.declared.Bench.{Bench}
 use Rattle.bench.specs.declared.Edit.{Edit}
 use Rattle.bench.specs.declared.Reported.{Reported}
-use Rattle.bench.specs.Target.{Target, isMatrix}
-use Rattle.bench.specs.State.{Limits, State, Present, nothing, present}
+use Rattle.bench.specs.State.{Limits, State, withLimits, Present, nothing, present}
 use Rattle.bench.specs.Held.{emptyBench, fullBench, benchOf, Stands}
 use Rattle.bench.specs.Calls.{after, openAnswer, openState, gateEditAnswer, gateEdited, afterGate, gateEdit, editBy, readersOf, sizeOf, outputEditAnswer, outputEdited, entryEditAnswer, entryEdited, noRework, reported, asTheyAre, GatePromise, OutputPromise, EntryPromise, LimitsPromise, ReportPromise}
 use Rattle.bench.specs.Run.{Call, afterCall, presentFrom, presentAfter, RunsBy, Runs}
 use Rattle.bench.specs.Run.Call.{opening, replacing, pointing, changing, limiting, reporting, storing}
-use Rattle.bench.proofs.Standing.{circuit-fits}
 use Rattle.bench.proofs.Readers.{Affected, Lists, gate-edit-lists, marked-affected}
 use Rattle.bench.proofs.RunLaws as laws
 use Rattle.bench.proofs.RunLaws.{SameLine, after-calls, AllCallable}
@@ -118,7 +119,7 @@ module _ (s : State) where
   pub entry-changed : (i value : ℕ) → entryEditAnswer (present s) i value ≡ Done → afterCall (present s) (changing i value) ≡ present (entryEdited s i value)
   entry-changed i value e = ap (λ (x : Answer). after x (entryEdited s i value) (present s)) e
 
-  pub limits-set : (l : Limits) → afterCall (present s) (limiting l) ≡ present (record { circuit = s .circuit; target = s .target; limits = l })
+  pub limits-set : (l : Limits) → afterCall (present s) (limiting l) ≡ present (withLimits s l)
   limits-set l = refl
 
 -- and a refused call, whatever was called, changes nothing (`refused-changes-nothing` in FirstDemand).
@@ -167,7 +168,7 @@ module _ {b : Bench} {calls : List Call} (run : Runs emptyBench calls b) where
     unfolding fullBench
     holds-each-line i =
         let c = s .circuit in
-        let n8 = circuit-fits (isMatrix (s .target)) c (stands .sound .circuit) .shape .n8 in
+        let n8 = circuit-fits (isMatrix (s .target)) c (stands .sound .circuit) .shape .n-most in
         subst (λ (z : Bench). HoldsLine z c i) (sym (stands .is))
         (record {
           value = λ x h.
@@ -177,8 +178,8 @@ module _ {b : Bench} {calls : List Call} (run : Runs emptyBench calls b) where
           andDepth = padding (andDepths (c .inputs) (gateAt c) (length (c .gates))) 0;
         })
       where
-        padding : {A : Type 0} (l : List A) (d : A) → getD (padded 256 d l) i d ≡ getD l i d
-        padding l d = pad-read l (256 - length l) i d
+        padding : {A : Type 0} (l : List A) (d : A) → getD (padded mostLines d l) i d ≡ getD l i d
+        padding l d = pad-read l (mostLines - length l) i d
 
     -- An edited gate lists as reworked that gate and every line that reads it, directly or through others, and no more: each once, in ascending order;
     -- and how many: the size of the readers' set defined from the circuit.
@@ -232,7 +233,7 @@ module _ {b : Bench} {calls : List Call} (run : Runs emptyBench calls b) where
     pub limiting-reworks-none : (l : Limits) (edit : Edit) (next : Bench) → LimitsPromise b l edit next → NoneReworked b (edit .count) next
     unfolding fullBench
     limiting-reworks-none l edit next h =
-        lines-stay (record { circuit = s .circuit; target = s .target; limits = l }) Done edit next (λ i. record { depth = refl; andDepth = refl; values = refl }) (h (present s) stands)
+        lines-stay (withLimits s l) Done edit next (λ i. record { depth = refl; andDepth = refl; values = refl }) (h (present s) stands)
 
 -- From any bench, whatever it holds, calls that begin with an accepted opening are as from one with nothing open: all of this holds of them too.
 pub from-any-bench : {b last : Bench} {bytes : List ℕ} {t : Target} {l : Limits} {calls : List Call} → openAnswer bytes t ≡ Done

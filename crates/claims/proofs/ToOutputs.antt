@@ -8,11 +8,12 @@ use native.Mathlib.Omega.{arith}
 use lib.ListN.{length, getD, replicate, length-replicate}
 use Rattle.circuit.specs.declared.Answer.the-variants.{Done}
 use Rattle.circuit.specs.Lines.{Gate, Listing, gateAt, reads, lines, greatest, overall, depthStep, andStep, depths, andDepths, depthOf, andDepthOf}
-use Rattle.circuit.specs.Reading.{listingAnswer}
+use Rattle.circuit.specs.Rules.{listingAnswer}
 use Rattle.circuit.proofs.Keep.{Below}
 use Rattle.circuit.proofs.LineLaws.{lines-length, lines-more, lines-at, greatest-read}
-use Rattle.bench.proofs.Standing.{circuit-fits, all-below}
+use Rattle.circuit.proofs.RuleLaws.{circuit-fits}
 use Rattle.circuit.proofs.Operands.{reads-below}
+use Rattle.bench.proofs.Standing.{all-below}
 
 -- line i feeds an output: an output names it, or a gate reads it whose line does
 pub data Feeds (c : Listing) : ℕ → Type 0 where

@@ -2,12 +2,12 @@
 use mathlib.Core.Path.{_≡_, ap, _∙_}
 use mathlib.Core.List.{List}
 use Prim.Native.Nat.{ℕ}
-use Rattle.circuit.specs.Reading.{answerNo}
+use Rattle.circuit.specs.Rules.{answerNo}
+use Rattle.targets.specs.Target.{Target}
 use Rattle.bench.specs.declared.Bench.{Bench}
 use Rattle.bench.specs.declared.Edit.{Edit}
 use Rattle.bench.specs.declared.Opened.{Opened}
 use Rattle.bench.specs.declared.Edited.{Edited}
-use Rattle.bench.specs.Target.{Target}
 use Rattle.bench.specs.State.{Limits, Present}
 use Rattle.bench.specs.Held.{benchOf, Stands}
 use Rattle.bench.specs.Calls.{OpenPromise}

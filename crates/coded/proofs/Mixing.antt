@@ -4,8 +4,8 @@ use mathlib.Core.Logic.{inl, inr}
 use mathlib.Core.List.{List, _∷_}
 use Prim.Native.Nat.{ℕ}
 use Rattle.circuit.specs.declared.Answer.the-variants.{Done}
+use Rattle.targets.specs.Target.{Target}
 use Rattle.bench.specs.declared.Bench.{Bench}
-use Rattle.bench.specs.Target.{Target}
 use Rattle.bench.specs.State.{Limits, Present, nothing}
 use Rattle.bench.specs.Held.{emptyBench, Stands}
 use Rattle.bench.specs.Calls.{openAnswer, asTheyAre}

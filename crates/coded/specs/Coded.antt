@@ -2,8 +2,9 @@
 use mathlib.Core.Logic.{_⊎_}
 use mathlib.Core.List.{List}
 use Prim.Native.Nat.{ℕ}
-use Rattle.circuit.specs.Reading.{refusalNo, answerNo}
-use Rattle.circuit.specs.Writing.{writingCode}
+use Rattle.circuit.specs.Rules.{refusalNo, answerNo}
+use Rattle.stored.specs.Writing.{writingCode}
+use Rattle.targets.specs.Target.{Target}
 use Rattle.bench.specs.declared.Bench.{Bench}
 use Rattle.bench.specs.declared.Edit.{Edit}
 use Rattle.bench.specs.declared.Report.{Report}
@@ -11,12 +12,11 @@ use Rattle.bench.specs.declared.Verdict.{Verdict}
 use Rattle.bench.specs.declared.Verdict.the-variants.{Wrong, OverGates, OverDepth, OverAndDepth, Pass}
 use Rattle.bench.specs.declared.Reported.{Reported}
 use Rattle.bench.specs.declared.Reported.the-variants.{Given, NotGiven}
-use Rattle.bench.specs.Target.{Target}
+use Rattle.bench.specs.declared.Opened.{Opened}
+use Rattle.bench.specs.declared.Edited.{Edited}
 use Rattle.bench.specs.State.{Limits}
 use Rattle.bench.specs.Calls.{View, OpenGiven, GateGiven, OutputGiven, EntryGiven, LimitsGiven, ReportGiven, StoreGiven}
 use Rattle.bench.specs.Run.{Call, StepGiven, Step, RunsBy}
-use Rattle.bench.specs.declared.Opened.{Opened}
-use Rattle.bench.specs.declared.Edited.{Edited}
 use Rattle.coded.specs.declared.Opened.{Opened as OpenedNumbers}
 use Rattle.coded.specs.declared.Edited.{Edited as EditedNumbers}
 use Rattle.coded.specs.declared.EditNumbers.{EditNumbers}

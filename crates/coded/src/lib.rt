@@ -1,17 +1,17 @@
 // The calls by value with numbers for answers, as other languages take them: 0 or the refusal's number, and the counts.
 ghost use mathlib.Core.Path.{_≡_};
-ghost use Rattle.circuit.specs.Reading.{answerNo};
-ghost use Rattle.bench.specs.Target.{matrix, table};
+ghost use Rattle.circuit.specs.Rules.{answerNo};
+ghost use Rattle.targets.specs.Target.{matrix, table};
 ghost use Rattle.bench.specs.State.{limits};
 ghost use Rattle.coded.specs.Coded.{openCoded, editCoded, verdictCode, reportCode, refusedCode, OpenCode, GateCode, OutputCode, EntryCode, LimitsCode, ReportCodePromise, StoreCode};
 use bench::Bench;
-use bench::Edit;
 use bench::Report;
 use bench::Reported;
 use bench::Verdict;
 use bench::edits;
 use bench::opening;
 use circuit::Answer;
+use circuit::LINES;
 use circuit::refusal_no;
 use circuit::wide;
 
@@ -26,7 +26,7 @@ pub struct Opened {
 pub struct EditNumbers {
     pub refusal: usize,
     pub count: usize,
-    pub lines: [u8; 256],
+    pub lines: [u16; LINES],
 }
 
 pub struct Edited {
@@ -223,7 +223,7 @@ fn refused_numbers(refusal: usize) -> ReportNumbers
 pub fn report(bench: Bench) -> ReportNumbers
     ensures { λ r. ⌜ ReportCodePromise bench r ⌝ }
 {
-    let given = bench::reporting::report(bench);
+    let given = report::report(bench);
     match given {
         Reported::Given(report) => report_numbers(report),
         Reported::NotGiven(why) => refused_numbers(refusal_no(why)),
@@ -235,5 +235,5 @@ pub fn store(bench: Bench, room: &mut [u8]) -> usize
     ensures { λ r. ⌜ StoreCode bench (now (room .entry)) r (now (room .exit)) ⌝ }
 {
     let written = bench::storing::store(bench, room);
-    circuit::restore::writing_code(written)
+    stored::restore::writing_code(written)
 }

@@ -7,26 +7,26 @@ use denote.Struct.Field.{usize-field}
 use denote.Struct.Laws.{usize-laws, usize-plain}
 use denote.Struct.Laws as LL
 use denote.Enum.Laws as EL
-use Rattle.bench.specs.declared.Opened.{Opened}
-use Rattle.bench.specs.declared.Edited.{Edited}
-use Rattle.coded.specs.declared.Opened.{Opened as OpenedNumbers}
-use Rattle.coded.specs.declared.Edited.{Edited as EditedNumbers}
-use Rattle.bench.proofs.Bench as T
-use Rattle.bench.proofs.Bench.Laws as T′
 use Rattle.circuit.proofs.Answer as Ans
 use Rattle.circuit.proofs.Answer.Laws as Ans′
+use Rattle.stored.proofs.Writing as Wri
+use Rattle.stored.proofs.Writing.Laws as Wri′
+use Rattle.bench.specs.declared.Opened.{Opened}
+use Rattle.bench.specs.declared.Edited.{Edited}
+use Rattle.bench.proofs.Bench as T
+use Rattle.bench.proofs.Bench.Laws as T′
 use Rattle.bench.proofs.Edit as Edt
 use Rattle.bench.proofs.Edit.Laws as Edt′
-use Rattle.coded.proofs.EditNumbers as Num
-use Rattle.coded.proofs.EditNumbers.Laws as Num′
 use Rattle.bench.proofs.Opened as D₁
 use Rattle.bench.proofs.Edited as D₂
-use Rattle.coded.proofs.Opened as D₃
-use Rattle.coded.proofs.Edited as D₄
 use Rattle.bench.proofs.Reported as Rep
 use Rattle.bench.proofs.Reported.Laws as Rep′
-use Rattle.circuit.proofs.Writing as Wri
-use Rattle.circuit.proofs.Writing.Laws as Wri′
+use Rattle.coded.specs.declared.Opened.{Opened as OpenedNumbers}
+use Rattle.coded.specs.declared.Edited.{Edited as EditedNumbers}
+use Rattle.coded.proofs.EditNumbers as Num
+use Rattle.coded.proofs.EditNumbers.Laws as Num′
+use Rattle.coded.proofs.Opened as D₃
+use Rattle.coded.proofs.Edited as D₄
 use Rattle.coded.proofs.ReportNumbers as Fig
 use Rattle.coded.proofs.ReportNumbers.Laws as Fig′
 use Rattle.lending.proofs.Lent.{Shape, View}

@@ -1,12 +1,12 @@
 // The outer calls, on a bench that is lent to be changed where it stands. Each is thin: the form by value does the work.
-ghost use Rattle.bench.specs.Target.{matrix, table};
+ghost use Rattle.targets.specs.Target.{matrix, table};
 ghost use Rattle.bench.specs.State.{limits};
 ghost use Rattle.bench.specs.Calls.{OpenPromise, GatePromise, OutputPromise, EntryPromise, LimitsPromise, ReportPromise, StorePromise};
 use bench::Bench;
 use bench::Edit;
 use bench::Reported;
 use circuit::Answer;
-use circuit::Writing;
+use stored::Writing;
 
 pub mod linked; // linked.rt: the same with numbers for answers, for other languages
 
@@ -82,7 +82,7 @@ pub fn set_limits(bench: &mut Bench, gates: u8, depth: u8, ands: u8) -> Edit
 pub fn report(bench: &Bench) -> Reported
     ensures { λ r. ⌜ ReportPromise (now (bench .entry)) r ⌝ }
 {
-    bench::reporting::report(*bench)
+    report::report(*bench)
 }
 
 // The stored bytes first in the room, and how many; the rest of the room stays.

@@ -1,9 +1,9 @@
 // What other languages link: the outer calls on a lent bench, with numbers for answers. A bench of zeros has nothing open.
 ghost use mathlib.Core.Path.{_≡_};
-ghost use Rattle.circuit.specs.Writing.{Restored};
+ghost use Rattle.stored.specs.Writing.{Restored};
 ghost use Rattle.distance.specs.Query.{distanceCode, answerOf};
 ghost use Rattle.builder.specs.Call.{BuildsNumbered};
-ghost use Rattle.bench.specs.Target.{matrix, table};
+ghost use Rattle.targets.specs.Target.{matrix, table};
 ghost use Rattle.bench.specs.State.{limits};
 ghost use Rattle.coded.specs.Coded.{OpenCode, GateCode, OutputCode, EntryCode, LimitsCode, ReportCodePromise, StoreCode};
 use bench::Bench;
@@ -116,7 +116,7 @@ pub extern "C" fn allpawasi_store(bench: &Bench, room: &mut [u8]) -> usize
 pub extern "C" fn allpawasi_restore(bytes: &[u8], only: bool, room: &mut [u8]) -> usize
     ensures { λ r. ⌜ Restored only (now (bytes .entry)) (now (room .entry)) r (now (room .exit)) ⌝ }
 {
-    circuit::restore::restored(bytes, only, room)
+    stored::restore::restored(bytes, only, room)
 }
 
 // Builds an XOR program: how many bytes stand first in the room, or 65,536 times the refusal's number.

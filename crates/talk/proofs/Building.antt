@@ -9,11 +9,11 @@ use lib.ListN.{length}
 use Rattle.circuit.specs.declared.Answer.{Answer}
 use Rattle.circuit.specs.declared.Answer.the-variants.{Done, Refused}
 use Rattle.circuit.specs.declared.Refusal.the-variants.{NoRoom}
-use Rattle.circuit.specs.declared.Writing.{Writing}
-use Rattle.circuit.specs.declared.Writing.the-variants.{Written, NotWritten}
-use Rattle.circuit.specs.Stored.{stored}
-use Rattle.circuit.specs.Writing.{intoRoom}
-use Rattle.circuit.proofs.Accept.{shape-is}
+use Rattle.circuit.proofs.Shapes.{shape-is}
+use Rattle.stored.specs.declared.Writing.{Writing}
+use Rattle.stored.specs.declared.Writing.the-variants.{Written, NotWritten}
+use Rattle.stored.specs.Stored.{stored}
+use Rattle.stored.specs.Writing.{intoRoom}
 use Rattle.builder.specs.Call.{built, refusal, buildAnswer, Builds}
 use Rattle.builder.proofs.Refusals.{accepted}
 use Rattle.builder.proofs.Promise.{built-shaped}

@@ -7,10 +7,11 @@ use native.Mathlib.Omega.{arith}
 use lib.ListN.{length, getD}
 use Rattle.circuit.specs.declared.Words.{Words}
 use Rattle.circuit.specs.declared.Refusal.the-variants.{NothingOpen}
+use Rattle.circuit.specs.Sizes.{mostInputs, mostLines, mostValues}
 use Rattle.circuit.specs.Gate.{noWords, valueIn}
 use Rattle.circuit.specs.Lines.{gateAt, depths, andDepths, words}
-use Rattle.circuit.proofs.Accept.{Shaped, shape-is}
-use Rattle.circuit.proofs.Back.{upto-same}
+use Rattle.circuit.proofs.Shapes.{Shaped, shape-is}
+use Rattle.circuit.proofs.Upto.{upto-same}
 use Rattle.circuit.proofs.WordLaws.{words-values}
 use Rattle.circuit.proofs.Padding.{pad-read}
 use Rattle.bench.specs.declared.Bench.{Bench}
@@ -26,7 +27,7 @@ use Rattle.talk.specs.Saying.{groupIn, linesHeldIn, heldIn}
 use Rattle.talk.proofs.Packing.{packed-same, few-values}
 
 -- values that agree on every input have one text
-values-same : (f h : ℕ → ℕ) (n : ℕ) → n ≤ 8 → ((x : ℕ) → x < 256 → f x ≡ h x) → valuesText f n ≡ valuesText h n
+values-same : (f h : ℕ → ℕ) (n : ℕ) → n ≤ mostInputs → ((x : ℕ) → x < mostValues → f x ≡ h x) → valuesText f n ≡ valuesText h n
 unfolding valuesText
 values-same f h n small e =
     ap hexText (upto-same (byteOf f n) (byteOf h n) (valueBytes n) (λ j l.
@@ -41,11 +42,11 @@ module _ (s : State) (ok : Sound s) where
       let n = c .inputs in
       let g = length (c .gates) in
       let r : Shaped n (length (c .outs)) g = shape-is n (length (c .outs)) g (full-standing s ok) in
-      let d = pad-read (depths n (gateAt c) g) (256 - length (depths n (gateAt c) g)) i 0 in
-      let a = pad-read (andDepths n (gateAt c) g) (256 - length (andDepths n (gateAt c) g)) i 0 in
-      let w = pad-read (words n (gateAt c) g) (256 - length (words n (gateAt c) g)) i noWords in
+      let d = pad-read (depths n (gateAt c) g) (mostLines - length (depths n (gateAt c) g)) i 0 in
+      let a = pad-read (andDepths n (gateAt c) g) (mostLines - length (andDepths n (gateAt c) g)) i 0 in
+      let w = pad-read (words n (gateAt c) g) (mostLines - length (words n (gateAt c) g)) i noWords in
       let v = ap (λ (x : Words). valuesText (valueIn x) n) w
-      ∙ values-same (valueIn (getD (words n (gateAt c) g) i noWords)) (lineOn c i) n (r .n8) (λ x h. words-values n x (gateAt c) g i h (r .n8)) in
+      ∙ values-same (valueIn (getD (words n (gateAt c) g) i noWords)) (lineOn c i) n (r .n-most) (λ x h. words-values n x (gateAt c) g i h (r .n-most)) in
       λ k. groupText i (d k) (a k) (v k)
 
   -- all groups

@@ -5,13 +5,13 @@ use Prim.Native.Nat.{ℕ, _+_, _-_, _/_, _≤_}
 use native.Mathlib.Omega.{arith}
 use lib.ListN.{length, take, drop, length-drop}
 use lib.Seq.{take-at, drop-at, length-take-le}
-use Rattle.script.specs.declared.Part.{Part}
-use Rattle.script.specs.Order.{digitsOf, bytesOf}
-use Rattle.script.specs.Placed.{HexPart}
 use Rattle.text.specs.Numbers.{bytesSaid}
 use Rattle.text.specs.Putting.{Put, PutFree}
 use Rattle.text.proofs.Numbers.{bytes-length, bytes-said}
 use Rattle.text.proofs.Putting.{put-then, put-as, put-free, counted}
+use Rattle.script.specs.declared.Part.{Part}
+use Rattle.script.specs.Order.{digitsOf, bytesOf}
+use Rattle.script.specs.Placed.{HexPart}
 use Rattle.talk.specs.Saying.{Laid}
 
 -- how many digits a part has

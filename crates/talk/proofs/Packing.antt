@@ -7,17 +7,18 @@ use native.Mathlib.Nat.{mod-one, add-comm, one-mul}
 use lib.ListN.{getD}
 use lib.Pow.{pow-mono, shr-shr, mod-pow-add, shl-exact}
 use Rattle.circuit.specs.declared.Words.{Words}
+use Rattle.circuit.specs.Sizes.{mostInputs, mostValues}
 use Rattle.circuit.specs.Gate.{bit, valueIn}
-use Rattle.bench.specs.Held.{packed}
+use Rattle.targets.specs.Wanted.{packed}
 use Rattle.talk.specs.Texts.{valueBits, byteOf}
 
 -- a shift of 1
 pub one-shifted : (k : ℕ) → k ≤ 8 → (1 * 2 ^ k) % 2 ^ 64 ≡ 2 ^ k
 one-shifted k h = shl-exact 1 k 64 (omega arith) (omega arith) ∙ one-mul (2 ^ k)
 
--- there are 256 values at most
-pub few-values : (n : ℕ) → n ≤ 8 → 2 ^ n ≤ 256
-few-values n h = pow-mono {i = n} {j = 8} h
+-- how many values there are at most
+pub few-values : (n : ℕ) → n ≤ mostInputs → 2 ^ n ≤ mostValues
+few-values n h = pow-mono {i = n} {j = mostInputs} h
 
 -- bits that agree one by one are packed alike
 pub packed-same : (f h : ℕ → ℕ) (c : ℕ) → ((b : ℕ) → b < c → f b ≡ h b) → packed f c ≡ packed h c

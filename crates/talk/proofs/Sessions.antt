@@ -8,6 +8,13 @@ use borrow.Author.Tests.{leb-true}
 use lib.Dec.{leb, ltb, eqb}
 use lib.ListN.{length, getD, take, drop, length-append}
 use lib.Seq.{take-at, drop-at}
+use Rattle.bench.specs.declared.Bench.{Bench}
+use Rattle.bench.specs.State.{Present, nothing, SoundPresent, limits, LimitsFit}
+use Rattle.bench.specs.Held.{emptyBench, benchOf, Stands}
+use Rattle.bench.specs.Run.{Call, afterCall, presentFrom}
+use Rattle.bench.proofs.SoundLaws.{sound-call}
+use Rattle.bench.proofs.RunLaws.{AllCallable, empty-stands}
+use Rattle.bench.proofs.Unique.{one-present}
 use Rattle.text.specs.declared.Number.{Number}
 use Rattle.text.specs.declared.Number.the-variants.{Value, Not}
 use Rattle.text.specs.Places.{headWord, tailWords, sameList}
@@ -15,24 +22,17 @@ use Rattle.text.specs.Numbers.{numberIn, hexBytes}
 use Rattle.text.proofs.Putting.{counted}
 use Rattle.script.specs.Order.{Order, silent, unreadable, askNew, askReport, askGate, askOutput, askEntry, askLimits, askStore, askHeld, askShow, askBuild, askDistance}
 use Rattle.script.specs.Reading.{Rest, onValue, number, limit, isHex, hex, matrixWord, tableWord, kind, noMore, Table, byWord, askOpen, openRest, gateRest, outputRest, entryRest, buildRest, distanceRest, bytesCalls, editCalls, calls, orderIn}
-use Rattle.bench.specs.declared.Bench.{Bench}
-use Rattle.bench.specs.State.{Present, nothing, SoundPresent, limits}
-use Rattle.bench.specs.Held.{emptyBench, benchOf, Stands}
-use Rattle.bench.specs.Run.{Call, ByteLimits, afterCall, presentFrom}
-use Rattle.bench.proofs.SoundLaws.{sound-call}
-use Rattle.bench.proofs.RunLaws.{AllCallable, empty-stands}
-use Rattle.bench.proofs.Unique.{one-present}
 use Rattle.talk.specs.declared.Told.{Told}
 use Rattle.talk.specs.Talk.{Deed, clearing, calling, deedOf, presentBy, presentAfterLine, presentAfterLines, textOf, written, Answers}
 
--- the limits that a deed brings, if any, are bytes
-abbrev pub ByteLimited : Deed → Type 0
-ByteLimited clearing = Unit {0}
-ByteLimited (calling calls) = AllCallable calls
+-- the limits that a deed brings, if any, can be held
+abbrev pub DeedFits : Deed → Type 0
+DeedFits clearing = Unit {0}
+DeedFits (calling calls) = AllCallable calls
 
 -- those of an order, by a name that shows it
 pub record Limited (o : Order) : Type 0 where
-  pub bytes : ByteLimited (deedOf o)
+  pub fits : DeedFits (deedOf o)
 
 -- ---- what a line asks is limited, word by word
 
@@ -43,7 +43,7 @@ either false p q = q
 
 -- a line that is no call
 none : Limited unreadable
-none = record { bytes = tt }
+none = record { fits = tt }
 
 -- what the rest of a line asks is limited, whatever it is
 abbrev Good : Rest → Type 0
@@ -81,9 +81,9 @@ unfolding kind
 good-kind f p s = either (sameList (headWord s) matrixWord) (p true (tailWords s)) (either (sameList (headWord s) tableWord) (p false (tailWords s)) none)
 
 -- after the last word
-good-end : (o : Order) → ByteLimited (deedOf o) → Good (noMore o)
+good-end : (o : Order) → DeedFits (deedOf o) → Good (noMore o)
 unfolding noMore
-good-end o p s = either (ltb 0 (length (headWord s))) none (record { bytes = p })
+good-end o p s = either (ltb 0 (length (headWord s))) none (record { fits = p })
 
 -- each row of a table of calls
 abbrev GoodRows : Table → Type 0
@@ -97,20 +97,20 @@ good-word [] w p s = none
 good-word (row ∷ rows) w p s = either (sameList w (row .0)) (p .0 s) (good-word rows w (p .1) s)
 
 -- three limits
-three : (f : ℕ → ℕ → ℕ → Order) → ((g d a : ℕ) → ByteLimits (limits g d a) → ByteLimited (deedOf (f g d a)))
+three : (f : ℕ → ℕ → ℕ → Order) → ((g d a : ℕ) → LimitsFit (limits g d a) → DeedFits (deedOf (f g d a)))
     → Good (limit (λ g. limit (λ d. limit (λ a. noMore (f g d a)))))
 three f p =
     good-limit _ (λ g x. good-limit _ (λ d y. good-limit _ (λ a z.
     good-end (f g d a) (p g d a (record { gates = omega arith; depth = omega arith; andDepth = omega arith })))))
 
 -- an open of either kind
-open-bytes : (t : Bool) (bytes target : List ℕ) (g d a : ℕ) → ByteLimits (limits g d a) → ByteLimited (deedOf (askOpen t bytes target g d a))
-open-bytes true bytes target g d a h = (h, tt)
-open-bytes false bytes target g d a h = (h, tt)
+open-fits : (t : Bool) (bytes target : List ℕ) (g d a : ℕ) → LimitsFit (limits g d a) → DeedFits (deedOf (askOpen t bytes target g d a))
+open-fits true bytes target g d a h = (h, tt)
+open-fits false bytes target g d a h = (h, tt)
 
 -- `open`, `build` and `distance`
 good-open : Good openRest
-good-open = good-hex _ (λ bytes. good-kind _ (λ t. good-hex _ (λ target. three (askOpen t bytes target) (open-bytes t bytes target))))
+good-open = good-hex _ (λ bytes. good-kind _ (λ t. good-hex _ (λ target. three (askOpen t bytes target) (open-fits t bytes target))))
 
 good-build : Good buildRest
 good-build = good-number _ (λ n. good-hex _ (λ rows. good-number _ (λ d. good-number _ (λ room. good-end (askBuild n rows d room) tt))))
@@ -143,7 +143,7 @@ good-calls = (good-end askNew tt, (good-end askReport (tt, tt), (good-end askHel
 pub line-limited : (line : List ℕ) → Limited (orderIn line)
 unfolding orderIn
 line-limited line =
-    let quiet : Limited silent = record { bytes = tt } in
+    let quiet : Limited silent = record { fits = tt } in
     either (ltb 65535 (length line)) none
     (either (ltb 0 (length (headWord line))) (either (eqb (getD line 0 0) 35) quiet (good-word calls (headWord line) good-calls (tailWords line))) quiet)
 
@@ -155,14 +155,14 @@ sound-calls p [] l ok = ok
 sound-calls p (call ∷ calls) l ok = sound-calls (afterCall p call) calls (l .1) (sound-call p call (l .0) ok)
 
 -- and so does every deed
-sound-deed : (p : Present) (d : Deed) → ByteLimited d → SoundPresent p → SoundPresent (presentBy p d)
+sound-deed : (p : Present) (d : Deed) → DeedFits d → SoundPresent p → SoundPresent (presentBy p d)
 sound-deed p clearing l ok = tt
 sound-deed p (calling calls) l ok = sound-calls p calls l ok
 
 -- and so the promise goes on
 pub stands-after : (b : Bench) (p : Present) → Stands b p → (line out after : List ℕ) (r : Told) → Answers b (orderIn line) out after r
     → Stands (r .bench) (presentAfterLine p (orderIn line))
-stands-after b p k line out after r f = record { sound = sound-deed p (deedOf (orderIn line)) (line-limited line .bytes) (k .sound); is = f .bench p k }
+stands-after b p k line out after r f = record { sound = sound-deed p (deedOf (orderIn line)) (line-limited line .fits) (k .sound); is = f .bench p k }
 
 -- ---- a session: for each line a result that meets the promise on the bench that the line before left, its answer written, and the bench after the last
 

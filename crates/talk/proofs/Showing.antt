@@ -1,34 +1,38 @@
 -- What is shown of a bench is the circuit, the depths and the verdict of what stands on it. Assumes nothing.
 use mathlib.Core.Path.{_≡_, ap, _∙_}
-use mathlib.Core.Bool.{Bool, true, cond}
+use mathlib.Core.Bool.{Bool, cond}
 use mathlib.Core.List.{[]}
-use lib.ListN.{length}
 use Rattle.circuit.specs.declared.Circuit.{Circuit}
+use Rattle.circuit.specs.declared.Answer.the-variants.{Done}
 use Rattle.circuit.specs.Lines.{Listing}
-use Rattle.circuit.specs.Reading.{shaped}
-use Rattle.circuit.specs.Stored.{held, listed}
-use Rattle.circuit.proofs.Back.{listed-held}
+use Rattle.circuit.specs.Rules.{listingAnswer}
+use Rattle.circuit.specs.Structs.{held, listed}
+use Rattle.circuit.proofs.Shapes.{shape-true}
+use Rattle.circuit.proofs.RuleLaws.{circuit-fits}
+use Rattle.circuit.proofs.Listed.{listed-held}
+use Rattle.targets.specs.Target.{isMatrix}
 use Rattle.bench.specs.declared.Bench.{Bench}
 use Rattle.bench.specs.declared.Reported.{Reported}
 use Rattle.bench.specs.State.{State, Sound, Present, nothing, present, reportOf}
 use Rattle.bench.specs.Held.{Stands, circuitOf}
 use Rattle.bench.specs.Calls.{reported}
-use Rattle.bench.proofs.Standing.{full-standing}
 use Rattle.bench.proofs.StoreLaws.{circuit-of-full}
 use Rattle.listing.specs.Printed.{linesText, linesIn}
 use Rattle.talk.specs.Texts.{stateShown, showText}
 use Rattle.talk.specs.Saying.{shownWith, shownIn}
 
--- the lines of a circuit in range
-held-lines : (c : Listing) → shaped (c .inputs) (length (c .outs)) (length (c .gates)) ≡ true → linesIn (held c) ≡ linesText c
+-- the lines of a circuit that is accepted
+held-lines : (only : Bool) (c : Listing) → listingAnswer only c ≡ Done → linesIn (held c) ≡ linesText c
 unfolding linesIn
-held-lines c e = ap (λ (t : Bool). cond t (linesText (listed (held c))) []) e ∙ ap linesText (listed-held c)
+held-lines only c h =
+    let s = shape-true _ _ _ (circuit-fits only c h .shape) in
+    ap (λ (t : Bool). cond t (linesText (listed (held c))) []) s ∙ ap linesText (listed-held only c h)
 
 module _ (s : State) (ok : Sound s) where
   -- the circuit of a state with its report
   state-shown : shownWith (held (s .circuit)) (reportOf s) ≡ stateShown s
   unfolding shownWith reportOf
-  state-shown = shown (held-lines (s .circuit) (full-standing s ok)) where
+  state-shown = shown (held-lines (isMatrix (s .target)) (s .circuit) (ok .circuit)) where
     shown : linesIn (held (s .circuit)) ≡ linesText (s .circuit) → shownWith (held (s .circuit)) (reportOf s) ≡ stateShown s
     shown e = rw e
 

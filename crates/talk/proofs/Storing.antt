@@ -2,7 +2,7 @@
 use mathlib.Core.Path.{_≡_, refl, ap, ap₂, _∙_, sym}
 use mathlib.Core.Bool.{Bool, true, false, cond}
 use mathlib.Core.List.{List, _++_, append-assoc}
-use Prim.Native.Nat.{ℕ, _≤_, _<_, min}
+use Prim.Native.Nat.{ℕ, _+_, _*_, _≤_, _<_, min}
 use native.Mathlib.Omega.{arith}
 use native.Mathlib.Decide.{decLt}
 use borrow.Author.Tests.{le-leb, lt-leb}
@@ -11,13 +11,14 @@ use lib.ListN.{length, take, drop, length-append}
 use lib.Seq.{take-at}
 use Rattle.circuit.specs.declared.Refusal.{Refusal}
 use Rattle.circuit.specs.declared.Refusal.the-variants.{NoRoom}
-use Rattle.circuit.specs.declared.Writing.{Writing}
-use Rattle.circuit.specs.declared.Writing.the-variants.{Written, NotWritten}
+use Rattle.circuit.specs.Sizes.{mostOutputs, mostGates}
 use Rattle.circuit.specs.Lines.{Listing}
-use Rattle.circuit.specs.Stored.{gateBytes, outBytes, stored}
-use Rattle.circuit.specs.Writing.{roomAfter}
-use Rattle.circuit.proofs.Accept.{Shaped, shape-is}
-use Rattle.circuit.proofs.Round.{gate-bytes-length, out-bytes-length}
+use Rattle.circuit.proofs.Shapes.{Shaped, shape-is}
+use Rattle.stored.specs.declared.Writing.{Writing}
+use Rattle.stored.specs.declared.Writing.the-variants.{Written, NotWritten}
+use Rattle.stored.specs.Stored.{gateBytes, outBytes, stored}
+use Rattle.stored.specs.Writing.{roomAfter}
+use Rattle.stored.proofs.Round.{gate-bytes-length, out-bytes-length}
 use Rattle.bench.specs.declared.Bench.{Bench}
 use Rattle.bench.specs.State.{Present, nothing, present}
 use Rattle.bench.specs.Held.{Stands}
@@ -28,10 +29,10 @@ use Rattle.talk.specs.Saying.{storedMost, writtenIn, StoresFirst}
 
 -- ---- how long a stored form is
 
--- with 248 gates and 32 outputs at most
-pub stored-short : (c : Listing) → Shaped (c .inputs) (length (c .outs)) (length (c .gates)) → length (stored c) ≤ 1341
+-- with as many gates and outputs as there may be
+pub stored-short : (c : Listing) → Shaped (c .inputs) (length (c .outs)) (length (c .gates)) → length (stored c) ≤ 5 + 5 * mostGates + 3 * mostOutputs
 stored-short c s =
-    omega (arith, length-append (gateBytes (c .gates)) (outBytes (c .outs)), gate-bytes-length (c .gates), out-bytes-length (c .outs), s .m32, s .g248)
+    omega (arith, length-append (gateBytes (c .gates)) (outBytes (c .outs)), gate-bytes-length (c .gates), out-bytes-length (c .outs), s .m-most, s .g-most)
 
 -- ---- what was written first in a room
 

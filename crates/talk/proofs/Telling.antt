@@ -4,8 +4,8 @@ use mathlib.Core.Bool.{Bool, true, false}
 use mathlib.Core.List.{List}
 use Prim.Native.Nat.{ℕ}
 use Rattle.circuit.specs.declared.Answer.{Answer}
+use Rattle.targets.specs.Target.{matrix, table, targetOf}
 use Rattle.bench.specs.declared.Bench.{Bench}
-use Rattle.bench.specs.Target.{matrix, table, targetOf}
 use Rattle.bench.specs.State.{Present, limits}
 use Rattle.bench.specs.Held.{benchOf, Stands}
 use Rattle.bench.specs.Calls.{openAnswer, OpenPromise}

@@ -11,7 +11,7 @@ use Rattle.bench.proofs.RunLaws.{AllCallable, present-append, after-calls, runs
 use Rattle.script.specs.Order.{Order, askNew}
 use Rattle.script.specs.Reading.{orderIn}
 use Rattle.talk.specs.Talk.{Deed, clearing, calling, deedOf, presentBy, presentAfterLines, callsBy, callsOn, callsTyped}
-use Rattle.talk.proofs.Sessions.{ByteLimited, line-limited, Session, session-from-empty}
+use Rattle.talk.proofs.Sessions.{DeedFits, line-limited, Session, session-from-empty}
 
 -- ---- what is present
 
@@ -41,20 +41,20 @@ pub since-new : (before : List (List ℕ)) (line : List ℕ) (since : List (List
     → callsTyped (before ++ line ∷ since) ≡ callsTyped since
 since-new before line since e = forgets [] before line since e
 
--- ---- the limits that are typed are bytes
+-- ---- the limits that are typed can be held
 
 all-append : (made calls : List Call) → AllCallable made → AllCallable calls → AllCallable (made ++ calls)
 all-append [] calls u v = v
 all-append (call ∷ made) calls u v = (u .0, all-append made calls (u .1) v)
 
-deed-callable : (made : List Call) (d : Deed) → AllCallable made → ByteLimited d → AllCallable (callsBy made d)
+deed-callable : (made : List Call) (d : Deed) → AllCallable made → DeedFits d → AllCallable (callsBy made d)
 deed-callable made clearing u v = tt
 deed-callable made (calling calls) u v = all-append made calls u v
 
 lines-callable : (made : List Call) (lines : List (List ℕ)) → AllCallable made → AllCallable (callsOn made lines)
 lines-callable made [] u = u
 lines-callable made (line ∷ lines) u =
-    lines-callable (callsBy made (deedOf (orderIn line))) lines (deed-callable made (deedOf (orderIn line)) u (line-limited line .bytes))
+    lines-callable (callsBy made (deedOf (orderIn line))) lines (deed-callable made (deedOf (orderIn line)) u (line-limited line .fits))
 
 pub typed-callable : (lines : List (List ℕ)) → AllCallable (callsTyped lines)
 typed-callable lines = lines-callable [] lines tt

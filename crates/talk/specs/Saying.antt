@@ -2,15 +2,16 @@
 use mathlib.Core.Path.{_≡_}
 use mathlib.Core.Bool.{cond}
 use mathlib.Core.List.{List, _++_}
-use Prim.Native.Nat.{ℕ, _+_, _-_, _≤_, min}
+use Prim.Native.Nat.{ℕ, _+_, _-_, _/_, _≤_, min}
 use lib.ListN.{length, getD, take, drop}
 use Rattle.io.specs.Counts.{Counts}
 use Rattle.circuit.specs.declared.Circuit.{Circuit}
-use Rattle.circuit.specs.declared.Writing.{Writing}
-use Rattle.circuit.specs.declared.Writing.the-variants.{Written, NotWritten}
 use Rattle.circuit.specs.declared.Refusal.the-variants.{NothingOpen}
+use Rattle.circuit.specs.Sizes.{mostValues}
 use Rattle.circuit.specs.Gate.{noWords, valueIn}
-use Rattle.circuit.specs.Stored.{stored}
+use Rattle.stored.specs.declared.Writing.{Writing}
+use Rattle.stored.specs.declared.Writing.the-variants.{Written, NotWritten}
+use Rattle.stored.specs.Stored.{stored}
 use Rattle.builder.specs.Call.{built, buildAnswer}
 use Rattle.bench.specs.declared.Bench.{Bench}
 use Rattle.bench.specs.declared.Report.{Report}
@@ -20,11 +21,11 @@ use Rattle.bench.specs.State.{Present}
 use Rattle.bench.specs.Held.{Stands}
 use Rattle.bench.specs.Calls.{storeAnswer, storedOf}
 use Rattle.bench.specs.Parts.{standing}
-use Rattle.script.specs.declared.Part.{Part}
-use Rattle.script.specs.Order.{bytesOf}
 use Rattle.text.specs.Numbers.{labelled}
 use Rattle.text.specs.Putting.{Put}
 use Rattle.listing.specs.Printed.{newLine, refusedText, countsText, linesIn, linesTo}
+use Rattle.script.specs.declared.Part.{Part}
+use Rattle.script.specs.Order.{bytesOf}
 use Rattle.talk.specs.Words.{andDepthName, heldName}
 use Rattle.talk.specs.Texts.{verdictText, hexLine, writtenText, groupText, valuesText}
 
@@ -41,6 +42,10 @@ storedMost = 2048
 abbrev pub writtenIn : List ℕ → Writing → List ℕ → List ℕ
 writtenIn name (Written count) room = hexLine name count (take (min count storedMost) room)
 writtenIn name (NotWritten w) room = refusedText w
+
+-- how many bytes hold a value for each input value there may be
+abbrev pub packedMost : ℕ
+packedMost = mostValues / 8
 
 -- the group of line i, as a bench holds it
 abbrev pub groupIn : Bench → ℕ → List ℕ

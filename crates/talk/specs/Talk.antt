@@ -4,11 +4,11 @@ use mathlib.Core.List.{List, [], _∷_, _++_}
 use Prim.Native.Nat.{ℕ}
 use lib.ListN.{take, drop, replicate}
 use Rattle.io.specs.Counts.{Counts}
-use Rattle.circuit.specs.Stored.{stored}
+use Rattle.stored.specs.Stored.{stored}
 use Rattle.distance.specs.Query.{answerOf}
 use Rattle.builder.specs.Call.{built, buildAnswer}
+use Rattle.targets.specs.Target.{matrix, table}
 use Rattle.bench.specs.declared.Bench.{Bench}
-use Rattle.bench.specs.Target.{matrix, table}
 use Rattle.bench.specs.State.{Present, nothing, limits}
 use Rattle.bench.specs.Held.{benchOf, Stands}
 use Rattle.bench.specs.Calls.{openAnswer, gateEdit, outputEditAnswer, entryEditAnswer, limitsAnswer, noRework, reported, storeAnswer, storedOf}

@@ -5,13 +5,14 @@ use lib.ListN.{length, getD, take}
 use Rattle.circuit.specs.declared.Answer.{Answer}
 use Rattle.circuit.specs.declared.Answer.the-variants.{Done, Refused}
 use Rattle.circuit.specs.declared.Tally.{Tally}
-use Rattle.circuit.specs.declared.Writing.{Writing}
-use Rattle.circuit.specs.declared.Writing.the-variants.{Written, NotWritten}
 use Rattle.circuit.specs.declared.Refusal.the-variants.{NothingOpen}
 use Rattle.circuit.specs.Lines.{Listing, gateAt, upto, values, depths, andDepths, depthOf, andDepthOf}
+use Rattle.stored.specs.declared.Writing.{Writing}
+use Rattle.stored.specs.declared.Writing.the-variants.{Written, NotWritten}
 use Rattle.distance.specs.declared.Answer.{Answer as Distance}
 use Rattle.distance.specs.declared.Answer.the-variants.{Gates, Never, Refused as NotAsked}
 use Rattle.distance.specs.Query.{queryRefusalNo}
+use Rattle.targets.specs.Wanted.{packed}
 use Rattle.bench.specs.declared.Verdict.{Verdict}
 use Rattle.bench.specs.declared.Verdict.the-variants.{Wrong, OverGates, OverDepth, OverAndDepth, Pass}
 use Rattle.bench.specs.declared.Report.{Report}
@@ -19,7 +20,6 @@ use Rattle.bench.specs.declared.Reported.{Reported}
 use Rattle.bench.specs.declared.Reported.the-variants.{Given, NotGiven}
 use Rattle.bench.specs.declared.Edit.{Edit}
 use Rattle.bench.specs.State.{State, Present, nothing, present, verdictOf}
-use Rattle.bench.specs.Held.{packed}
 use Rattle.text.specs.Numbers.{hexText, labelled, numbered, numbersText}
 use Rattle.listing.specs.Printed.{newLine, refusedName, refusedText, countsText, linesText, linesTo}
 use Rattle.talk.specs.Words.{openedText, reportName, xorName, nonlinearName, notName, depthName, andDepthName, passName, wrongName, overGatesName, overDepthName, overAndDepthName, reworkedName, heldName, distanceName, noneName}

@@ -1,6 +1,7 @@
 // What is held for each line: its depth, its AND depth, its values.
 ghost use Prim.Native.Nat.{_+_, _*_, _<_, _≤_};
 ghost use lib.ListN.{length};
+ghost use Rattle.circuit.specs.Sizes.{mostInputs, mostGates, mostLines};
 ghost use Rattle.circuit.specs.Gate.{valueIn};
 ghost use Rattle.text.specs.Putting.{Put};
 ghost use Rattle.listing.specs.Printed.{linesTo};
@@ -13,13 +14,13 @@ use crate::values::value_bytes;
 use bench::Bench;
 use circuit::Refusal;
 use circuit::Words;
-use circuit::reader::is_shape;
+use circuit::rules::is_shape;
 use text::put_labelled;
 use text::put_numbered;
 
 // A line's values in hex.
 fn put_values(room: &mut [u8], at: usize, w: Words, n: usize) -> usize
-    requires { ⌜ (at + 64 ≤ length (now room)) × (n ≤ 8) ⌝ }
+    requires { ⌜ (at + 64 ≤ length (now room)) × (n ≤ mostInputs) ⌝ }
     ensures { λ r. ⌜ Put (now (room .entry)) at (valuesText (valueIn w) n) (now (room .exit)) r ⌝ }
     ensures { λ r. ⌜ r ≤ at + 64 ⌝ }
 {
@@ -38,7 +39,7 @@ fn put_group(
     w: Words,
     n: usize,
 ) -> usize
-    requires { ⌜ (at + 80 ≤ length (now room)) × (line < 256) × (n ≤ 8) ⌝ }
+    requires { ⌜ (at + 80 ≤ length (now room)) × (line < mostLines) × (n ≤ mostInputs) ⌝ }
     ensures { λ r. ⌜ Put (now (room .entry)) at (groupText line depth ands (valuesText (valueIn w) n)) (now (room .exit)) r ⌝ }
     ensures { λ r. ⌜ r ≤ at + 80 ⌝ }
 {
@@ -51,7 +52,7 @@ fn put_group(
 
 // A group for each line.
 fn put_groups(room: &mut [u8], at: usize, b: Bench) -> usize
-    requires { ⌜ (at + 80 * (b .n + b .g) ≤ length (now room)) × (b .n ≤ 8) × (b .g ≤ 248) ⌝ }
+    requires { ⌜ (at + 80 * (b .n + b .g) ≤ length (now room)) × (b .n ≤ mostInputs) × (b .g ≤ mostGates) ⌝ }
     ensures { λ r. ⌜ Put (now (room .entry)) at (linesTo (groupIn b) (b .n + b .g)) (now (room .exit)) r ⌝ }
     ensures { λ r. ⌜ r ≤ at + 80 * (b .n + b .g) ⌝ }
 {
@@ -68,7 +69,7 @@ fn put_groups(room: &mut [u8], at: usize, b: Bench) -> usize
 
 // `held COUNT LINE:DEPTH:ANDDEPTH:VALUES ..`.
 fn say_lines(out: &mut [u8; OUT], b: Bench) -> usize
-    requires { ⌜ (b .n ≤ 8) × (b .g ≤ 248) ⌝ }
+    requires { ⌜ (b .n ≤ mostInputs) × (b .g ≤ mostGates) ⌝ }
     ensures { λ r. ⌜ Said (now (out .entry)) (now (out .exit)) r (linesHeldIn b) ⌝ }
 {
     let counted = put_labelled(out, 0, b"held ", b.n + b.g);

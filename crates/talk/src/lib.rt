@@ -17,13 +17,13 @@ pub struct Told {
     pub len: usize,
 }
 
-// The room that an answer is put in: longer than any answer, the longest being `held` of 256 lines.
+// The room that an answer is put in: longer than any answer, the longest being `held` of all the lines there may be.
 pub const OUT: usize = 32768;
 
 // As many bytes as the words of one line can say in hexadecimal digits.
 pub(crate) const HEX: usize = 32768;
 
-// More than any stored form has: 5 + 5 * 248 + 3 * 32 bytes.
+// More than any stored form has: 5 + 5 * GATES + 3 * OUTPUTS bytes.
 pub(crate) const STORED: usize = 2048;
 
 // The answer to a line of the call language: the bench after it, and the answer's bytes first in `out`, which is past them as

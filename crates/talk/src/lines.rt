@@ -14,10 +14,11 @@ use bench::Report;
 use bench::Reported;
 use bench::Verdict;
 use circuit::Answer;
+use circuit::LINES;
 use circuit::Refusal;
 use circuit::Tally;
-use circuit::Writing;
 use circuit::wide;
+use stored::Writing;
 use text::at_most;
 use text::put_labelled;
 
@@ -100,11 +101,11 @@ pub(crate) fn say_opened(out: &mut [u8; OUT], answer: Answer) -> usize
     }
 }
 
-// `reworked COUNT LINE LINE ..`. No edit reworks more than 256 lines; the test keeps to the array on a bench that no calls yield.
-fn say_reworked(out: &mut [u8; OUT], count: usize, lines: [u8; 256]) -> usize
+// `reworked COUNT LINE LINE ..`. No edit reworks more lines than there may be; the test keeps to the array on a bench that no calls yield.
+fn say_reworked(out: &mut [u8; OUT], count: usize, lines: [u16; LINES]) -> usize
     ensures { λ r. ⌜ Said (now (out .entry)) (now (out .exit)) r (reworkedText count lines) ⌝ }
 {
-    let shown = at_most(count, 256);
+    let shown = at_most(count, LINES);
     let counted = put_labelled(out, 0, b"reworked ", count);
     let listed = text::put_numbers(out, counted, &lines[..shown]);
     text::put(out, listed, b"\n")

@@ -3,10 +3,16 @@ ghost use mathlib.Core.Path.{_≡_};
 ghost use mathlib.Core.List.{[], _∷_};
 ghost use Prim.Native.Nat.{_<_, _≤_, _^_};
 ghost use lib.ListN.{getD};
+ghost use Rattle.circuit.specs.Sizes.{mostInputs};
 ghost use Rattle.circuit.specs.Gate.{valueIn};
 ghost use Rattle.circuit.specs.Lines.{upto, padded};
 ghost use Rattle.talk.specs.Texts.{valueBytes, valueBits, byteOf};
+ghost use Rattle.talk.specs.Saying.{packedMost};
+use circuit::VALUES;
 use circuit::Words;
+
+// How many bytes hold a value for each input value there may be.
+const PACKED: usize = VALUES / 8;
 
 // One of four words.
 fn word_at(w: Words, k: usize) -> u64
@@ -27,7 +33,7 @@ fn word_at(w: Words, k: usize) -> u64
 
 // One more than the greatest byte that the values on 2^n inputs can make.
 fn byte_end(n: usize) -> u64
-    requires { ⌜ n ≤ 8 ⌝ }
+    requires { ⌜ n ≤ mostInputs ⌝ }
     ensures { λ r. ⌜ (r ≡ 2 ^ valueBits n) × (r ≤ 256) ⌝ }
 {
     if n < 3 {
@@ -39,15 +45,15 @@ fn byte_end(n: usize) -> u64
 
 // How many bytes there are: one where there are fewer than 8 values.
 pub(crate) fn byte_count(n: usize) -> usize
-    requires { ⌜ n ≤ 8 ⌝ }
-    ensures { λ r. ⌜ (r ≡ valueBytes n) × (r ≤ 32) ⌝ }
+    requires { ⌜ n ≤ mostInputs ⌝ }
+    ensures { λ r. ⌜ (r ≡ valueBytes n) × (r ≤ packedMost) ⌝ }
 {
     ((1usize << n) + 7) / 8
 }
 
 // The values on inputs 8 j to 8 j + 7, as far as there are so many.
 fn value_byte(w: Words, n: usize, j: usize) -> u8
-    requires { ⌜ (n ≤ 8) × (j < 32) ⌝ }
+    requires { ⌜ (n ≤ mostInputs) × (j < packedMost) ⌝ }
     ensures { λ r. ⌜ r ≡ byteOf (valueIn w) n j ⌝ }
 {
     let end = byte_end(n);
@@ -56,12 +62,12 @@ fn value_byte(w: Words, n: usize, j: usize) -> u8
 }
 
 // All the bytes, and zeros past the last.
-pub(crate) fn value_bytes(w: Words, n: usize) -> [u8; 32]
-    requires { ⌜ n ≤ 8 ⌝ }
-    ensures { λ r. ⌜ r ≡ padded 32 0 (upto (byteOf (valueIn w) n) (valueBytes n)) ⌝ }
+pub(crate) fn value_bytes(w: Words, n: usize) -> [u8; PACKED]
+    requires { ⌜ n ≤ mostInputs ⌝ }
+    ensures { λ r. ⌜ r ≡ padded packedMost 0 (upto (byteOf (valueIn w) n) (valueBytes n)) ⌝ }
 {
     let count = byte_count(n);
-    let mut bytes = [0u8; 32];
+    let mut bytes = [0u8; PACKED];
     let mut j: usize = 0;
     while j < count {
         bytes[j] = value_byte(w, n, j);

@@ -1,7 +1,7 @@
 -- `coded::answer_no` meets its contract: 0, or the refusal's number. Assumes nothing.
 use mathlib.Core.Path.{ap, sym, _∙_}
 use borrow.Author.Needs.{needs}
-use Rattle.circuit.specs.Reading.{answerNo}
+use Rattle.circuit.specs.Rules.{answerNo}
 use Rattle.coded.proofs.answer_no.Statement.{statement}
 use Rattle.coded.proofs.answer_no.Tie as tie
 

@@ -1,8 +1,8 @@
 -- `coded::change_entry` meets its contract. Assumes nothing.
+use borrow.Author.Needs.{needs}
 use Rattle.bench.specs.State.{Present}
 use Rattle.bench.specs.Calls.{noRework, entryEditAnswer, afterEntry}
 use Rattle.coded.proofs.Coding.{edit-coded}
-use borrow.Author.Needs.{needs}
 use Rattle.coded.proofs.change_entry.Statement.{statement}
 use Rattle.coded.proofs.change_entry.Tie as tie
 

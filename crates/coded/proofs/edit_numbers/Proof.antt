@@ -1,9 +1,9 @@
 -- `coded::edit_numbers` meets its contract. Assumes nothing.
 use mathlib.Core.Path.{ap}
 use Prim.Native.Nat.{ℕ}
+use borrow.Author.Needs.{needs}
 use Rattle.coded.specs.declared.Edited.{Edited}
 use Rattle.coded.specs.Coded.{editCoded}
-use borrow.Author.Needs.{needs}
 use Rattle.coded.proofs.edit_numbers.Statement.{statement}
 use Rattle.coded.proofs.edit_numbers.Tie as tie
 

@@ -1,8 +1,8 @@
 -- `coded::open_matrix` meets its contract. Assumes nothing.
-use Rattle.bench.specs.Target.{matrix}
+use borrow.Author.Needs.{needs}
+use Rattle.targets.specs.Target.{matrix}
 use Rattle.bench.specs.State.{limits}
 use Rattle.coded.proofs.Coding.{open-coded}
-use borrow.Author.Needs.{needs}
 use Rattle.coded.proofs.open_matrix.Statement.{statement}
 use Rattle.coded.proofs.open_matrix.Tie as tie
 

@@ -1,9 +1,9 @@
 -- `coded::open_numbers` meets its contract. Assumes nothing.
 use mathlib.Core.Path.{ap}
 use Prim.Native.Nat.{ℕ}
+use borrow.Author.Needs.{needs}
 use Rattle.coded.specs.declared.Opened.{Opened}
 use Rattle.coded.specs.Coded.{openCoded}
-use borrow.Author.Needs.{needs}
 use Rattle.coded.proofs.open_numbers.Statement.{statement}
 use Rattle.coded.proofs.open_numbers.Tie as tie
 

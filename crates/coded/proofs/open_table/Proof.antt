@@ -1,8 +1,8 @@
 -- `coded::open_table` meets its contract. Assumes nothing.
-use Rattle.bench.specs.Target.{table}
+use borrow.Author.Needs.{needs}
+use Rattle.targets.specs.Target.{table}
 use Rattle.bench.specs.State.{limits}
 use Rattle.coded.proofs.Coding.{open-coded}
-use borrow.Author.Needs.{needs}
 use Rattle.coded.proofs.open_table.Statement.{statement}
 use Rattle.coded.proofs.open_table.Tie as tie
 

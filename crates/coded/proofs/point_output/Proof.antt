@@ -1,8 +1,8 @@
 -- `coded::point_output` meets its contract. Assumes nothing.
+use borrow.Author.Needs.{needs}
 use Rattle.bench.specs.State.{Present}
 use Rattle.bench.specs.Calls.{noRework, outputEditAnswer, afterOutput}
 use Rattle.coded.proofs.Coding.{edit-coded}
-use borrow.Author.Needs.{needs}
 use Rattle.coded.proofs.point_output.Statement.{statement}
 use Rattle.coded.proofs.point_output.Tie as tie
 

@@ -1,8 +1,8 @@
 -- `coded::replace_gate` meets its contract. Assumes nothing.
+use borrow.Author.Needs.{needs}
 use Rattle.bench.specs.State.{Present}
 use Rattle.bench.specs.Calls.{gateEdit, afterGate}
 use Rattle.coded.proofs.Coding.{edit-coded}
-use borrow.Author.Needs.{needs}
 use Rattle.coded.proofs.replace_gate.Statement.{statement}
 use Rattle.coded.proofs.replace_gate.Tie as tie
 

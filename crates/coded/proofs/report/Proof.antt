@@ -1,7 +1,7 @@
 -- `coded::report` meets its contract. Assumes nothing.
 use mathlib.Core.Path.{_∙_, ap, sym}
-use Rattle.coded.specs.Coded.{refusedCode, reportedCode}
 use borrow.Author.Needs.{needs}
+use Rattle.coded.specs.Coded.{refusedCode, reportedCode}
 use Rattle.coded.proofs.report.Statement.{statement}
 use Rattle.coded.proofs.report.Tie as tie
 

@@ -1,8 +1,8 @@
 -- `coded::set_limits` meets its contract. Assumes nothing.
+use borrow.Author.Needs.{needs}
 use Rattle.bench.specs.State.{Present, limits}
 use Rattle.bench.specs.Calls.{noRework, limitsAnswer, afterLimits}
 use Rattle.coded.proofs.Coding.{edit-coded}
-use borrow.Author.Needs.{needs}
 use Rattle.coded.proofs.set_limits.Statement.{statement}
 use Rattle.coded.proofs.set_limits.Tie as tie
 

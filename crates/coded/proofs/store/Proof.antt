@@ -1,7 +1,7 @@
 -- `coded::store` meets its contract. Assumes nothing.
 use mathlib.Core.Path.{_∙_, ap}
-use Rattle.circuit.specs.Writing.{writingCode}
 use borrow.Author.Needs.{needs}
+use Rattle.stored.specs.Writing.{writingCode}
 use Rattle.coded.proofs.store.Statement.{statement}
 use Rattle.coded.proofs.store.Tie as tie
 

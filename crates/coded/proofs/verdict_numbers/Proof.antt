@@ -1,7 +1,7 @@
 -- `coded::verdict_numbers` meets its contract. Assumes nothing.
 use mathlib.Core.Path.{ap, sym}
-use Rattle.coded.specs.Coded.{verdictCode}
 use borrow.Author.Needs.{needs}
+use Rattle.coded.specs.Coded.{verdictCode}
 use Rattle.coded.proofs.verdict_numbers.Statement.{statement}
 use Rattle.coded.proofs.verdict_numbers.Tie as tie
 

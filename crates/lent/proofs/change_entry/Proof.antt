@@ -1,14 +1,14 @@
 -- `lent::change_entry` meets its contract: it does with the bench that is lent what the form by value does. Assumes nothing.
-use Rattle.bench.specs.Calls.{EntryPromise}
 use mir.Syntax.{w64}
+use Rattle.bench.specs.Calls.{EntryPromise}
+use Rattle.bench.proofs.edits.change_entry.Symbol as inner
+use Rattle.bench.proofs.edits.change_entry.Met.{met}
 use Rattle.lending.proofs.Further.{none, number}
 use Rattle.lending.proofs.Edits.{edited-by}
 use Rattle.lent.proofs.OnBench.{edited}
-use Rattle.bench.proofs.edits.change_entry.Symbol as inner
-use Rattle.bench.proofs.edits.change_entry.Met.{met}
 use Rattle.lent.proofs.change_entry.Key.{name}
-use Rattle.lent.proofs.change_entry.Statement.{statement}
 use Rattle.lent.proofs.change_entry.Code as code
+use Rattle.lent.proofs.change_entry.Statement.{statement}
 
 pub change-entry-spec : {M : Type 1} → statement M
 unfolding code.routine

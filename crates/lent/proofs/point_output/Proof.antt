@@ -1,14 +1,14 @@
 -- `lent::point_output` meets its contract: it does with the bench that is lent what the form by value does. Assumes nothing.
-use Rattle.bench.specs.Calls.{OutputPromise}
 use mir.Syntax.{w64}
+use Rattle.bench.specs.Calls.{OutputPromise}
+use Rattle.bench.proofs.edits.point_output.Symbol as inner
+use Rattle.bench.proofs.edits.point_output.Met.{met}
 use Rattle.lending.proofs.Further.{none, number}
 use Rattle.lending.proofs.Edits.{edited-by}
 use Rattle.lent.proofs.OnBench.{edited}
-use Rattle.bench.proofs.edits.point_output.Symbol as inner
-use Rattle.bench.proofs.edits.point_output.Met.{met}
 use Rattle.lent.proofs.point_output.Key.{name}
-use Rattle.lent.proofs.point_output.Statement.{statement}
 use Rattle.lent.proofs.point_output.Code as code
+use Rattle.lent.proofs.point_output.Statement.{statement}
 
 pub point-output-spec : {M : Type 1} → statement M
 unfolding code.routine

@@ -1,14 +1,14 @@
 -- `lent::replace_gate` meets its contract: it does with the bench that is lent what the form by value does. Assumes nothing.
-use Rattle.bench.specs.Calls.{GatePromise}
 use mir.Syntax.{w64}
+use Rattle.bench.specs.Calls.{GatePromise}
+use Rattle.bench.proofs.edits.replace_gate.Symbol as inner
+use Rattle.bench.proofs.edits.replace_gate.Met.{met}
 use Rattle.lending.proofs.Further.{none, number}
 use Rattle.lending.proofs.Edits.{edited-by}
 use Rattle.lent.proofs.OnBench.{edited}
-use Rattle.bench.proofs.edits.replace_gate.Symbol as inner
-use Rattle.bench.proofs.edits.replace_gate.Met.{met}
 use Rattle.lent.proofs.replace_gate.Key.{name}
-use Rattle.lent.proofs.replace_gate.Statement.{statement}
 use Rattle.lent.proofs.replace_gate.Code as code
+use Rattle.lent.proofs.replace_gate.Statement.{statement}
 
 pub replace-gate-spec : {M : Type 1} → statement M
 unfolding code.routine

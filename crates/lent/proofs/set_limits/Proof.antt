@@ -1,14 +1,14 @@
 -- `lent::set_limits` meets its contract: it does with the bench that is lent what the form by value does. Assumes nothing.
 use Rattle.bench.specs.Calls.{LimitsPromise}
 use Rattle.bench.specs.State.{limits}
+use Rattle.bench.proofs.edits.set_limits.Symbol as inner
+use Rattle.bench.proofs.edits.set_limits.Met.{met}
 use Rattle.lending.proofs.Further.{bytes-of}
 use Rattle.lending.proofs.Edits.{edited-by}
 use Rattle.lent.proofs.OnBench.{edited}
-use Rattle.bench.proofs.edits.set_limits.Symbol as inner
-use Rattle.bench.proofs.edits.set_limits.Met.{met}
 use Rattle.lent.proofs.set_limits.Key.{name}
-use Rattle.lent.proofs.set_limits.Statement.{statement}
 use Rattle.lent.proofs.set_limits.Code as code
+use Rattle.lent.proofs.set_limits.Statement.{statement}
 
 pub set-limits-spec : {M : Type 1} → statement M
 unfolding code.routine

@@ -1,14 +1,14 @@
 -- `lent::store` meets its contract: it does with the bench that is lent what the form by value does. Assumes nothing.
-use Rattle.bench.specs.Calls.{StorePromise}
 use mir.Syntax.{tyInt, w8}
 use denote.Builtin.{u8}
-use Rattle.lending.proofs.Looks.{stored-by}
-use Rattle.lent.proofs.OnBench.{written}
+use Rattle.bench.specs.Calls.{StorePromise}
 use Rattle.bench.proofs.storing.store.Symbol as inner
 use Rattle.bench.proofs.storing.store.Met.{met}
+use Rattle.lending.proofs.Looks.{stored-by}
+use Rattle.lent.proofs.OnBench.{written}
 use Rattle.lent.proofs.store.Key.{name}
-use Rattle.lent.proofs.store.Statement.{statement}
 use Rattle.lent.proofs.store.Code as code
+use Rattle.lent.proofs.store.Statement.{statement}
 
 pub store-spec : {M : Type 1} → statement M
 unfolding code.routine

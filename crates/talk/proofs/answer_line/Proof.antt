@@ -1,12 +1,12 @@
 -- `talk::answer_line` meets its contract. Assumes nothing.
 use mathlib.Core.Path.{_≡_, refl, ap, sym, _∙_, subst}
+use borrow.Author.Needs.{needs}
 use Rattle.script.specs.declared.Call.{Call}
 use Rattle.script.specs.Order.{orderOf}
 use Rattle.script.specs.Reading.{orderIn}
 use Rattle.script.specs.Placed.{Placed}
 use Rattle.talk.proofs.Spoken.{silent-said}
 use Rattle.talk.proofs.Telling.{answers, answers-as}
-use borrow.Author.Needs.{needs}
 use Rattle.talk.proofs.answer_line.Statement.{statement}
 use Rattle.talk.proofs.answer_line.Tie as tie
 

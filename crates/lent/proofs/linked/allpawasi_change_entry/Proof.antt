@@ -1,14 +1,14 @@
 -- `lent::linked::allpawasi_change_entry` meets its contract: it does with the bench that is lent what the form by value does. Assumes nothing.
-use Rattle.coded.specs.Coded.{EntryCode}
 use mir.Syntax.{w64}
+use Rattle.coded.specs.Coded.{EntryCode}
+use Rattle.coded.proofs.change_entry.Symbol as inner
+use Rattle.coded.proofs.change_entry.Met.{met}
 use Rattle.lending.proofs.Further.{none, number}
 use Rattle.lending.proofs.Edits.{edited-by}
 use Rattle.lent.proofs.OnBench.{editedNumbers}
-use Rattle.coded.proofs.change_entry.Symbol as inner
-use Rattle.coded.proofs.change_entry.Met.{met}
 use Rattle.lent.proofs.linked.allpawasi_change_entry.Key.{name}
-use Rattle.lent.proofs.linked.allpawasi_change_entry.Statement.{statement}
 use Rattle.lent.proofs.linked.allpawasi_change_entry.Code as code
+use Rattle.lent.proofs.linked.allpawasi_change_entry.Statement.{statement}
 
 pub allpawasi-change-entry-spec : {M : Type 1} → statement M
 unfolding code.routine

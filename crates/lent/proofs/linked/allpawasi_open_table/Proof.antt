@@ -1,17 +1,17 @@
 -- `lent::linked::allpawasi_open_table` meets its contract: it does with the bench that is lent what the form by value does. Assumes nothing.
-use Rattle.coded.specs.Coded.{OpenCode}
-use Rattle.bench.specs.Target.{table}
-use Rattle.bench.specs.State.{limits}
 use mir.Syntax.{w8}
 use denote.Builtin.{u8}
+use Rattle.targets.specs.Target.{table}
+use Rattle.bench.specs.State.{limits}
+use Rattle.coded.specs.Coded.{OpenCode}
+use Rattle.coded.proofs.open_table.Symbol as inner
+use Rattle.coded.proofs.open_table.Met.{met}
 use Rattle.lending.proofs.Further.{none, number, slice}
 use Rattle.lending.proofs.Edits.{edited-by}
 use Rattle.lent.proofs.OnBench.{openedNumber}
-use Rattle.coded.proofs.open_table.Symbol as inner
-use Rattle.coded.proofs.open_table.Met.{met}
 use Rattle.lent.proofs.linked.allpawasi_open_table.Key.{name}
-use Rattle.lent.proofs.linked.allpawasi_open_table.Statement.{statement}
 use Rattle.lent.proofs.linked.allpawasi_open_table.Code as code
+use Rattle.lent.proofs.linked.allpawasi_open_table.Statement.{statement}
 
 pub allpawasi-open-table-spec : {M : Type 1} → statement M
 unfolding code.routine

@@ -1,14 +1,14 @@
 -- `lent::linked::allpawasi_point_output` meets its contract: it does with the bench that is lent what the form by value does. Assumes nothing.
-use Rattle.coded.specs.Coded.{OutputCode}
 use mir.Syntax.{w64}
+use Rattle.coded.specs.Coded.{OutputCode}
+use Rattle.coded.proofs.point_output.Symbol as inner
+use Rattle.coded.proofs.point_output.Met.{met}
 use Rattle.lending.proofs.Further.{none, number}
 use Rattle.lending.proofs.Edits.{edited-by}
 use Rattle.lent.proofs.OnBench.{editedNumbers}
-use Rattle.coded.proofs.point_output.Symbol as inner
-use Rattle.coded.proofs.point_output.Met.{met}
 use Rattle.lent.proofs.linked.allpawasi_point_output.Key.{name}
-use Rattle.lent.proofs.linked.allpawasi_point_output.Statement.{statement}
 use Rattle.lent.proofs.linked.allpawasi_point_output.Code as code
+use Rattle.lent.proofs.linked.allpawasi_point_output.Statement.{statement}
 
 pub allpawasi-point-output-spec : {M : Type 1} → statement M
 unfolding code.routine

@@ -1,14 +1,14 @@
 -- `lent::linked::allpawasi_replace_gate` meets its contract: it does with the bench that is lent what the form by value does. Assumes nothing.
-use Rattle.coded.specs.Coded.{GateCode}
 use mir.Syntax.{w64}
+use Rattle.coded.specs.Coded.{GateCode}
+use Rattle.coded.proofs.replace_gate.Symbol as inner
+use Rattle.coded.proofs.replace_gate.Met.{met}
 use Rattle.lending.proofs.Further.{none, number}
 use Rattle.lending.proofs.Edits.{edited-by}
 use Rattle.lent.proofs.OnBench.{editedNumbers}
-use Rattle.coded.proofs.replace_gate.Symbol as inner
-use Rattle.coded.proofs.replace_gate.Met.{met}
 use Rattle.lent.proofs.linked.allpawasi_replace_gate.Key.{name}
-use Rattle.lent.proofs.linked.allpawasi_replace_gate.Statement.{statement}
 use Rattle.lent.proofs.linked.allpawasi_replace_gate.Code as code
+use Rattle.lent.proofs.linked.allpawasi_replace_gate.Statement.{statement}
 
 pub allpawasi-replace-gate-spec : {M : Type 1} → statement M
 unfolding code.routine

@@ -1,13 +1,13 @@
 -- `lent::linked::allpawasi_report` meets its contract: it does with the bench that is lent what the form by value does. Assumes nothing.
 use Rattle.coded.specs.Coded.{ReportCodePromise}
+use Rattle.coded.proofs.report.Symbol as inner
+use Rattle.coded.proofs.report.Met.{met}
 use Rattle.lending.proofs.Further.{none}
 use Rattle.lending.proofs.Looks.{looked-by}
 use Rattle.lent.proofs.OnBench.{reportNumbers}
-use Rattle.coded.proofs.report.Symbol as inner
-use Rattle.coded.proofs.report.Met.{met}
 use Rattle.lent.proofs.linked.allpawasi_report.Key.{name}
-use Rattle.lent.proofs.linked.allpawasi_report.Statement.{statement}
 use Rattle.lent.proofs.linked.allpawasi_report.Code as code
+use Rattle.lent.proofs.linked.allpawasi_report.Statement.{statement}
 
 pub allpawasi-report-spec : {M : Type 1} → statement M
 unfolding code.routine

@@ -1,14 +1,14 @@
 -- `lent::linked::allpawasi_set_limits` meets its contract: it does with the bench that is lent what the form by value does. Assumes nothing.
-use Rattle.coded.specs.Coded.{LimitsCode}
 use Rattle.bench.specs.State.{limits}
+use Rattle.coded.specs.Coded.{LimitsCode}
+use Rattle.coded.proofs.set_limits.Symbol as inner
+use Rattle.coded.proofs.set_limits.Met.{met}
 use Rattle.lending.proofs.Further.{bytes-of}
 use Rattle.lending.proofs.Edits.{edited-by}
 use Rattle.lent.proofs.OnBench.{editedNumbers}
-use Rattle.coded.proofs.set_limits.Symbol as inner
-use Rattle.coded.proofs.set_limits.Met.{met}
 use Rattle.lent.proofs.linked.allpawasi_set_limits.Key.{name}
-use Rattle.lent.proofs.linked.allpawasi_set_limits.Statement.{statement}
 use Rattle.lent.proofs.linked.allpawasi_set_limits.Code as code
+use Rattle.lent.proofs.linked.allpawasi_set_limits.Statement.{statement}
 
 pub allpawasi-set-limits-spec : {M : Type 1} → statement M
 unfolding code.routine

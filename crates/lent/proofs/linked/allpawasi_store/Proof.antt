@@ -1,14 +1,14 @@
 -- `lent::linked::allpawasi_store` meets its contract: it does with the bench that is lent what the form by value does. Assumes nothing.
-use Rattle.coded.specs.Coded.{StoreCode}
 use mir.Syntax.{tyInt, w8}
 use denote.Builtin.{u8}
-use Rattle.lending.proofs.Looks.{stored-by}
-use Rattle.lent.proofs.OnBench.{storedNumber}
+use Rattle.coded.specs.Coded.{StoreCode}
 use Rattle.coded.proofs.store.Symbol as inner
 use Rattle.coded.proofs.store.Met.{met}
+use Rattle.lending.proofs.Looks.{stored-by}
+use Rattle.lent.proofs.OnBench.{storedNumber}
 use Rattle.lent.proofs.linked.allpawasi_store.Key.{name}
-use Rattle.lent.proofs.linked.allpawasi_store.Statement.{statement}
 use Rattle.lent.proofs.linked.allpawasi_store.Code as code
+use Rattle.lent.proofs.linked.allpawasi_store.Statement.{statement}
 
 pub allpawasi-store-spec : {M : Type 1} → statement M
 unfolding code.routine

@@ -2,12 +2,12 @@
 use mathlib.Core.Path.{_≡_}
 use native.Mathlib.Omega.{arith}
 use lib.ListN.{length, take, drop, length-take}
+use borrow.Author.Needs.{needs}
 use Rattle.io.specs.Counts.{Counts}
 use Rattle.script.specs.Order.{bytesOf}
 use Rattle.talk.proofs.Spoken.{said, first-bytes}
 use Rattle.talk.proofs.Laying.{bytes-long, bytes-put}
 use Rattle.talk.proofs.Building.{builds-as, builds-first}
-use borrow.Author.Needs.{needs}
 use Rattle.talk.proofs.calls.build_in.Statement.{statement}
 use Rattle.talk.proofs.calls.build_in.Tie as tie
 

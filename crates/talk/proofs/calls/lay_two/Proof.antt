@@ -1,7 +1,7 @@
 -- `talk::calls::lay_two` meets its contract. Assumes nothing.
 use native.Mathlib.Omega.{arith}
-use Rattle.talk.proofs.Laying.{bytes-long, bytes-put, laid}
 use borrow.Author.Needs.{needs}
+use Rattle.talk.proofs.Laying.{bytes-long, bytes-put, laid}
 use Rattle.talk.proofs.calls.lay_two.Statement.{statement}
 use Rattle.talk.proofs.calls.lay_two.Tie as tie
 

@@ -2,8 +2,8 @@
 use mathlib.Core.Path.{_≡_}
 use native.Mathlib.Omega.{arith}
 use lib.ListN.{length, take, drop, length-take}
-use Rattle.talk.proofs.Storing.{stores-first}
 use borrow.Author.Needs.{needs}
+use Rattle.talk.proofs.Storing.{stores-first}
 use Rattle.talk.proofs.calls.store_in.Statement.{statement}
 use Rattle.talk.proofs.calls.store_in.Tie as tie
 

@@ -1,7 +1,7 @@
 -- `talk::calls::tell_build` meets its contract. Assumes nothing.
+use borrow.Author.Needs.{needs}
 use Rattle.talk.specs.Words.{builtName}
 use Rattle.talk.proofs.Telling.{answers}
-use borrow.Author.Needs.{needs}
 use Rattle.talk.proofs.calls.tell_build.Statement.{statement}
 use Rattle.talk.proofs.calls.tell_build.Tie as tie
 

@@ -2,10 +2,10 @@
 use mathlib.Core.Path.{ap, ap₂, _∙_}
 use mathlib.Core.List.{List}
 use Prim.Native.Nat.{ℕ}
+use borrow.Author.Needs.{needs}
 use Rattle.distance.specs.Query.{answerOf}
 use Rattle.talk.specs.Texts.{distanceText}
 use Rattle.talk.proofs.Telling.{answers}
-use borrow.Author.Needs.{needs}
 use Rattle.talk.proofs.calls.tell_distance.Statement.{statement}
 use Rattle.talk.proofs.calls.tell_distance.Tie as tie
 

@@ -1,10 +1,10 @@
 -- `talk::calls::tell_gate` meets its contract. Assumes nothing.
 use mathlib.Core.Path.{refl}
+use borrow.Author.Needs.{needs}
 use Rattle.bench.specs.State.{Present}
 use Rattle.bench.specs.Calls.{gateEdit}
 use Rattle.talk.specs.Texts.{editText}
 use Rattle.talk.proofs.Telling.{answers-call}
-use borrow.Author.Needs.{needs}
 use Rattle.talk.proofs.calls.tell_gate.Statement.{statement}
 use Rattle.talk.proofs.calls.tell_gate.Tie as tie
 

@@ -1,7 +1,7 @@
 -- `talk::calls::tell_held` meets its contract. Assumes nothing.
+use borrow.Author.Needs.{needs}
 use Rattle.talk.proofs.Telling.{answers}
 use Rattle.talk.proofs.Holding.{held-is}
-use borrow.Author.Needs.{needs}
 use Rattle.talk.proofs.calls.tell_held.Statement.{statement}
 use Rattle.talk.proofs.calls.tell_held.Tie as tie
 

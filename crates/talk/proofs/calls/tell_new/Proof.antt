@@ -1,7 +1,7 @@
 -- `talk::calls::tell_new` meets its contract. Assumes nothing.
 use mathlib.Core.Path.{refl}
-use Rattle.talk.proofs.Telling.{answers}
 use borrow.Author.Needs.{needs}
+use Rattle.talk.proofs.Telling.{answers}
 use Rattle.talk.proofs.calls.tell_new.Statement.{statement}
 use Rattle.talk.proofs.calls.tell_new.Tie as tie
 

@@ -1,7 +1,7 @@
 -- `talk::calls::tell_open` meets its contract. Assumes nothing.
+use borrow.Author.Needs.{needs}
 use Rattle.script.specs.Order.{bytesOf}
 use Rattle.talk.proofs.Telling.{answers-open}
-use borrow.Author.Needs.{needs}
 use Rattle.talk.proofs.calls.tell_open.Statement.{statement}
 use Rattle.talk.proofs.calls.tell_open.Tie as tie
 

@@ -1,10 +1,10 @@
 -- `talk::calls::tell_output` meets its contract. Assumes nothing.
 use mathlib.Core.Path.{refl}
+use borrow.Author.Needs.{needs}
 use Rattle.bench.specs.State.{Present}
 use Rattle.bench.specs.Calls.{outputEditAnswer, noRework}
 use Rattle.talk.specs.Texts.{editText}
 use Rattle.talk.proofs.Telling.{answers-call}
-use borrow.Author.Needs.{needs}
 use Rattle.talk.proofs.calls.tell_output.Statement.{statement}
 use Rattle.talk.proofs.calls.tell_output.Tie as tie
 

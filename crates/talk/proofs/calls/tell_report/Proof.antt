@@ -1,8 +1,8 @@
 -- `talk::calls::tell_report` meets its contract. Assumes nothing.
 use mathlib.Core.Path.{ap}
+use borrow.Author.Needs.{needs}
 use Rattle.talk.specs.Texts.{reportedText}
 use Rattle.talk.proofs.Telling.{answers}
-use borrow.Author.Needs.{needs}
 use Rattle.talk.proofs.calls.tell_report.Statement.{statement}
 use Rattle.talk.proofs.calls.tell_report.Tie as tie
 

@@ -1,10 +1,10 @@
 -- `talk::calls::tell_show` meets its contract. Assumes nothing.
 use mathlib.Core.Path.{ap, _∙_}
+use borrow.Author.Needs.{needs}
 use Rattle.circuit.specs.declared.Circuit.{Circuit}
 use Rattle.talk.specs.Saying.{shownIn}
 use Rattle.talk.proofs.Telling.{answers}
 use Rattle.talk.proofs.Showing.{shown-is}
-use borrow.Author.Needs.{needs}
 use Rattle.talk.proofs.calls.tell_show.Statement.{statement}
 use Rattle.talk.proofs.calls.tell_show.Tie as tie
 

@@ -1,7 +1,7 @@
 -- `talk::calls::tell_store` meets its contract. Assumes nothing.
+use borrow.Author.Needs.{needs}
 use Rattle.talk.specs.Words.{storedName}
 use Rattle.talk.proofs.Telling.{answers}
-use borrow.Author.Needs.{needs}
 use Rattle.talk.proofs.calls.tell_store.Statement.{statement}
 use Rattle.talk.proofs.calls.tell_store.Tie as tie
 

@@ -1,8 +1,8 @@
 -- `talk::held::put_group` meets its contract. Assumes nothing.
 use native.Mathlib.Omega.{arith}
+use borrow.Author.Needs.{needs}
 use Rattle.text.proofs.Putting.{put-then, put-free}
 use Rattle.talk.specs.Texts.{groupText}
-use borrow.Author.Needs.{needs}
 use Rattle.talk.proofs.held.put_group.Statement.{statement}
 use Rattle.talk.proofs.held.put_group.Tie as tie
 

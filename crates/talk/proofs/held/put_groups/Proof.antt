@@ -4,6 +4,7 @@ use Prim.Native.Nat.{_+_, _-_, _*_, _≤_}
 use native.Mathlib.Omega.{arith}
 use borrow.Author.Needs.{needs}
 use lib.ListN.{length}
+use Rattle.circuit.specs.Sizes.{mostInputs, mostGates}
 use Rattle.text.specs.Putting.{Put}
 use Rattle.text.proofs.Putting.{put-none, put-then, put-as}
 use Rattle.listing.specs.Printed.{linesTo}
@@ -14,7 +15,7 @@ use Rattle.talk.proofs.held.put_groups.Tie as tie
 
 abbrev Inv-loop : tie.InvT-loop
 Inv-loop room₀ at b n count next₀ i₀ room next i =
-    (i ≤ count) × (count ≡ b .n + b .g) × (n ≡ b .n) × (at + 80 * count ≤ length room₀) × (n ≤ 8) × (b .g ≤ 248) × (length room ≡ length room₀)
+    (i ≤ count) × (count ≡ b .n + b .g) × (n ≡ b .n) × (at + 80 * count ≤ length room₀) × (n ≤ mostInputs) × (b .g ≤ mostGates) × (length room ≡ length room₀)
     × (next ≤ at + 80 * i) × Put room₀ at (linesTo (groupIn b) i) room next
 
 abbrev μ-loop : tie.MeasureT-loop

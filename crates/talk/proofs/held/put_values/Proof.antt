@@ -2,14 +2,15 @@
 use mathlib.Core.Path.{_≡_, ap, _∙_, sym}
 use native.Mathlib.Omega.{arith}
 use lib.ListN.{length, take}
+use borrow.Author.Needs.{needs}
 use Rattle.circuit.specs.Gate.{valueIn}
 use Rattle.circuit.specs.Lines.{upto}
-use Rattle.circuit.proofs.Over.{upto-length}
+use Rattle.circuit.proofs.Upto.{upto-length}
 use Rattle.circuit.proofs.Padding.{padded-take}
 use Rattle.text.specs.Numbers.{hexText}
 use Rattle.text.proofs.Putting.{put-as, put-free}
 use Rattle.talk.specs.Texts.{valueBytes, byteOf, valuesText}
-use borrow.Author.Needs.{needs}
+use Rattle.talk.specs.Saying.{packedMost}
 use Rattle.talk.proofs.held.put_values.Statement.{statement}
 use Rattle.talk.proofs.held.put_values.Tie as tie
 
@@ -20,7 +21,7 @@ whole b =
     let a = b .before .before .before .args in
     let all = upto (byteOf (valueIn (a .w)) (a .n)) (valueBytes (a .n)) in
     ap (take (b .byte-count .result)) (b .before .value-bytes .ensures)
-    ∙ padded-take 32 0 all (b .byte-count .result) (b .byte-count .ensures .0 ∙ sym (upto-length (byteOf (valueIn (a .w)) (a .n)) (valueBytes (a .n))))
+    ∙ padded-take packedMost 0 all (b .byte-count .result) (b .byte-count .ensures .0 ∙ sym (upto-length (byteOf (valueIn (a .w)) (a .n)) (valueBytes (a .n))))
 
 -- how many they are
 size : (b : tie.After-byte-count) → b .byte-count .result ≡ length (take (b .byte-count .result) (b .before .value-bytes .result))

@@ -2,15 +2,15 @@
 use mathlib.Core.Path.{_≡_, ap, sym, _∙_}
 use mathlib.Core.Bool.{Bool, true, false, cond, _&&_}
 use mathlib.Core.Logic.{⊎-elim}
+use borrow.Author.Needs.{needs}
 use Rattle.circuit.specs.declared.Refusal.the-variants.{NothingOpen}
-use Rattle.circuit.specs.Reading.{shaped}
-use Rattle.circuit.proofs.Accept.{shape-is}
+use Rattle.circuit.specs.Rules.{shaped}
+use Rattle.circuit.proofs.Shapes.{shape-is}
 use Rattle.bench.specs.declared.Bench.{Bench}
 use Rattle.bench.specs.Parts.{standing}
 use Rattle.listing.specs.Printed.{refusedText}
 use Rattle.talk.specs.Saying.{linesHeldIn, heldIn}
 use Rattle.talk.proofs.Spoken.{said-as}
-use borrow.Author.Needs.{needs}
 use Rattle.talk.proofs.held.say_held.Statement.{statement}
 use Rattle.talk.proofs.held.say_held.Tie as tie
 
@@ -22,7 +22,7 @@ is-shape-requires : tie.Need-is-shape-requires
 is-shape-requires c κs = search needs
 
 say-lines-requires : tie.Need-say-lines-requires
-say-lines-requires c κs = let s = shape-is _ _ _ (sym (c .before .before .is-shape .ensures) ∙ c .before .if2 .taken) in (s .n8, s .g248)
+say-lines-requires c κs = let s = shape-is _ _ _ (sym (c .before .before .is-shape .ensures) ∙ c .before .if2 .taken) in (s .n-most, s .g-most)
 
 returns : tie.Need-returns
 returns c =

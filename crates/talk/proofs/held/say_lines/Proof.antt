@@ -1,9 +1,9 @@
 -- `talk::held::say_lines` meets its contract. Assumes nothing.
 use native.Mathlib.Omega.{arith}
+use borrow.Author.Needs.{needs}
 use Rattle.text.proofs.Putting.{put-then, put-free}
 use Rattle.talk.specs.Saying.{linesHeldIn}
 use Rattle.talk.proofs.Spoken.{said}
-use borrow.Author.Needs.{needs}
 use Rattle.talk.proofs.held.say_lines.Statement.{statement}
 use Rattle.talk.proofs.held.say_lines.Tie as tie
 

@@ -1,7 +1,7 @@
 -- `talk::lines::put_tally` meets its contract. Assumes nothing.
 use native.Mathlib.Omega.{arith}
-use Rattle.text.proofs.Putting.{put-then, put-free}
 use borrow.Author.Needs.{needs}
+use Rattle.text.proofs.Putting.{put-then, put-free}
 use Rattle.talk.proofs.lines.put_tally.Statement.{statement}
 use Rattle.talk.proofs.lines.put_tally.Tie as tie
 

@@ -3,10 +3,10 @@ use mathlib.Core.Path.{_≡_, ap}
 use Prim.Native.Nat.{ℕ}
 use native.Mathlib.Omega.{arith}
 use lib.ListN.{length, take, length-take}
+use borrow.Author.Needs.{needs}
 use Rattle.text.proofs.Putting.{put-then, put-free}
 use Rattle.talk.specs.Texts.{hexLine}
 use Rattle.talk.proofs.Spoken.{said, said-as}
-use borrow.Author.Needs.{needs}
 use Rattle.talk.proofs.lines.say_bytes.Statement.{statement}
 use Rattle.talk.proofs.lines.say_bytes.Tie as tie
 

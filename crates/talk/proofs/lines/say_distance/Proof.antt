@@ -2,11 +2,11 @@
 use mathlib.Core.Path.{ap, _∙_}
 use mathlib.Core.List.{_++_}
 use Prim.Native.Nat.{ℕ}
+use borrow.Author.Needs.{needs}
 use Rattle.text.specs.Numbers.{labelled}
 use Rattle.listing.specs.Printed.{newLine, refusedName}
 use Rattle.talk.specs.Words.{distanceName}
 use Rattle.talk.proofs.Spoken.{said-as}
-use borrow.Author.Needs.{needs}
 use Rattle.talk.proofs.lines.say_distance.Statement.{statement}
 use Rattle.talk.proofs.lines.say_distance.Tie as tie
 

@@ -1,9 +1,9 @@
 -- `talk::lines::say_edit` meets its contract. Assumes nothing.
 use mathlib.Core.Path.{ap, sym}
+use borrow.Author.Needs.{needs}
 use Rattle.circuit.specs.declared.Answer.{Answer}
 use Rattle.talk.specs.Texts.{acceptedText, reworkedText}
 use Rattle.talk.proofs.Spoken.{said-as}
-use borrow.Author.Needs.{needs}
 use Rattle.talk.proofs.lines.say_edit.Statement.{statement}
 use Rattle.talk.proofs.lines.say_edit.Tie as tie
 

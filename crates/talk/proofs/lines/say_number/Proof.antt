@@ -1,8 +1,8 @@
 -- `talk::lines::say_number` meets its contract. Assumes nothing.
 use native.Mathlib.Omega.{arith}
+use borrow.Author.Needs.{needs}
 use Rattle.text.proofs.Putting.{put-then, put-free}
 use Rattle.talk.proofs.Spoken.{said}
-use borrow.Author.Needs.{needs}
 use Rattle.talk.proofs.lines.say_number.Statement.{statement}
 use Rattle.talk.proofs.lines.say_number.Tie as tie
 

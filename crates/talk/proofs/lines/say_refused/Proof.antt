@@ -1,7 +1,7 @@
 -- `talk::lines::say_refused` meets its contract. Assumes nothing.
+use borrow.Author.Needs.{needs}
 use Rattle.text.proofs.Putting.{put-free}
 use Rattle.talk.proofs.Spoken.{said}
-use borrow.Author.Needs.{needs}
 use Rattle.talk.proofs.lines.say_refused.Statement.{statement}
 use Rattle.talk.proofs.lines.say_refused.Tie as tie
 

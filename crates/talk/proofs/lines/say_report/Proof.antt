@@ -2,13 +2,13 @@
 use mathlib.Core.Path.{_≡_}
 use mathlib.Core.List.{[], _∷_, _++_}
 use native.Mathlib.Omega.{arith}
-use Rattle.text.proofs.Putting.{put-then, put-free}
+use borrow.Author.Needs.{needs}
 use Rattle.text.specs.Numbers.{labelled}
+use Rattle.text.proofs.Putting.{put-then, put-free}
 use Rattle.listing.specs.Printed.{newLine}
 use Rattle.talk.specs.Words.{depthName, andDepthName}
 use Rattle.talk.specs.Texts.{tallyText, reportText, verdictText}
 use Rattle.talk.proofs.Spoken.{said, said-as}
-use borrow.Author.Needs.{needs}
 use Rattle.talk.proofs.lines.say_report.Statement.{statement}
 use Rattle.talk.proofs.lines.say_report.Tie as tie
 

@@ -4,18 +4,19 @@ use mathlib.Core.List.{List, _++_}
 use Prim.Native.Nat.{ℕ}
 use native.Mathlib.Omega.{arith}
 use lib.ListN.{length, take, length-take}
-use Rattle.text.proofs.Putting.{put-then, put-free}
+use borrow.Author.Needs.{needs}
+use Rattle.circuit.specs.Sizes.{mostLines}
 use Rattle.text.specs.Numbers.{labelled, numbersText}
+use Rattle.text.proofs.Putting.{put-then, put-free}
 use Rattle.listing.specs.Printed.{newLine}
 use Rattle.talk.specs.Words.{reworkedName}
 use Rattle.talk.specs.Texts.{reworkedText}
 use Rattle.talk.proofs.Spoken.{said, said-as, take-least}
-use borrow.Author.Needs.{needs}
 use Rattle.talk.proofs.lines.say_reworked.Statement.{statement}
 use Rattle.talk.proofs.lines.say_reworked.Tie as tie
 
 -- the array's length
-size : (s : tie.Start) → length (s .args .t3) ≡ 256
+size : (s : tie.Start) → length (s .args .t3) ≡ mostLines
 size s = search needs
 
 at-most-requires : tie.Need-at-most-requires
@@ -50,7 +51,7 @@ returns c =
     let m = counted .before .before .before in
     let a = m .before .args in
     let k = ap (λ (x : ℕ). take x (a .t3)) (m .at-most .ensures) in
-    let same = take-least (a .count) 256 (a .t3) (size (m .before)) in
+    let same = take-least (a .count) mostLines (a .t3) (size (m .before)) in
     let long = size (m .before) in
     let few = length-take (m .at-most .result) (a .t3) in
     let two = put-then (omega arith) (put-free (omega arith) (counted .put-labelled .ensures)) (put-free (omega arith) (p .put-numbers .ensures)) in

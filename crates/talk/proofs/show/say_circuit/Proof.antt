@@ -3,14 +3,14 @@ use mathlib.Core.Path.{ap}
 use mathlib.Core.List.{_++_}
 use Prim.Native.Nat.{ℕ}
 use native.Mathlib.Omega.{arith}
-use Rattle.text.proofs.Putting.{put-then, put-free}
+use borrow.Author.Needs.{needs}
 use Rattle.text.specs.Numbers.{labelled}
+use Rattle.text.proofs.Putting.{put-then, put-free}
 use Rattle.listing.specs.Printed.{newLine, countsText, linesIn}
 use Rattle.talk.specs.Words.{andDepthName}
 use Rattle.talk.specs.Texts.{verdictText}
 use Rattle.talk.specs.Saying.{shownWith}
 use Rattle.talk.proofs.Spoken.{said, said-as}
-use borrow.Author.Needs.{needs}
 use Rattle.talk.proofs.show.say_circuit.Statement.{statement}
 use Rattle.talk.proofs.show.say_circuit.Tie as tie
 

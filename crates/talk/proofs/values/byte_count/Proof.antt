@@ -2,8 +2,8 @@
 use mathlib.Core.Path.{ap}
 use Prim.Native.Nat.{ℕ, _+_, _/_}
 use native.Mathlib.Omega.{arith}
-use Rattle.talk.proofs.Packing.{one-shifted, few-values}
 use borrow.Author.Needs.{needs}
+use Rattle.talk.proofs.Packing.{one-shifted, few-values}
 use Rattle.talk.proofs.values.byte_count.Statement.{statement}
 use Rattle.talk.proofs.values.byte_count.Tie as tie
 

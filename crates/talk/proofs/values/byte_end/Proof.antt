@@ -2,8 +2,8 @@
 use mathlib.Core.Path.{ap, _∙_}
 use Prim.Native.Nat.{ℕ, _*_, _%_, _^_}
 use native.Mathlib.Omega.{arith}
-use Rattle.talk.proofs.Packing.{one-shifted, few-bits, end-small, end-large, end-fits}
 use borrow.Author.Needs.{needs}
+use Rattle.talk.proofs.Packing.{one-shifted, few-bits, end-small, end-large, end-fits}
 use Rattle.talk.proofs.values.byte_end.Statement.{statement}
 use Rattle.talk.proofs.values.byte_end.Tie as tie
 

@@ -4,9 +4,9 @@ use Prim.Native.Nat.{ℕ, _*_, _/_, _%_, _^_, _<_}
 use native.Mathlib.Nat.{mod-lt}
 use lib.Pow.{pow-pos}
 use native.Mathlib.Omega.{arith}
+use borrow.Author.Needs.{needs}
 use Rattle.talk.specs.Texts.{valueBits}
 use Rattle.talk.proofs.Packing.{byte-is}
-use borrow.Author.Needs.{needs}
 use Rattle.talk.proofs.values.value_byte.Statement.{statement}
 use Rattle.talk.proofs.values.value_byte.Tie as tie
 

@@ -5,16 +5,18 @@ use Prim.Native.Nat.{ℕ, _-_, _≤_}
 use native.Mathlib.Omega.{arith}
 use borrow.Author.Needs.{needs}
 use lib.ListN.{set}
+use Rattle.circuit.specs.Sizes.{mostInputs}
 use Rattle.circuit.specs.Gate.{valueIn}
 use Rattle.circuit.specs.Lines.{upto, padded}
-use Rattle.bench.proofs.Packing.{upto-put}
+use Rattle.targets.proofs.Packing.{upto-put}
 use Rattle.talk.specs.Texts.{valueBytes, byteOf}
+use Rattle.talk.specs.Saying.{packedMost}
 use Rattle.talk.proofs.values.value_bytes.Statement.{statement}
 use Rattle.talk.proofs.values.value_bytes.Tie as tie
 
 abbrev Inv-loop : tie.InvT-loop
 Inv-loop w n count bytes₀ j₀ bytes j =
-    (j ≤ count) × (count ≤ 32) × (count ≡ valueBytes n) × (n ≤ 8) × (bytes ≡ padded 32 0 (upto (byteOf (valueIn w) n) j))
+    (j ≤ count) × (count ≤ packedMost) × (count ≡ valueBytes n) × (n ≤ mostInputs) × (bytes ≡ padded packedMost 0 (upto (byteOf (valueIn w) n) j))
 
 abbrev μ-loop : tie.MeasureT-loop
 μ-loop w n count bytes₀ j₀ bytes j = count - j
@@ -46,7 +48,7 @@ loop-again c =
       search needs,
       search needs,
       search needs,
-      ap₂ (λ (b : List ℕ) (v : ℕ). set b (l .j) v) (l .inv .4) (c .value-byte .ensures) ∙ upto-put (byteOf (valueIn (a .w)) (a .n)) 0 32 (l .j) (omega arith),
+      ap₂ (λ (b : List ℕ) (v : ℕ). set b (l .j) v) (l .inv .4) (c .value-byte .ensures) ∙ upto-put (byteOf (valueIn (a .w)) (a .n)) 0 packedMost (l .j) (omega arith),
     )
 
 returns : tie.Need-returns Inv-loop μ-loop
@@ -54,7 +56,7 @@ returns c =
     let l = c .before .loop in
     let a = c .before .before .before .args in
     let e : l .j ≡ valueBytes (a .n) = omega arith in
-    l .inv .4 ∙ ap (λ (k : ℕ). padded 32 0 (upto (byteOf (valueIn (a .w)) (a .n)) k)) e
+    l .inv .4 ∙ ap (λ (k : ℕ). padded packedMost 0 (upto (byteOf (valueIn (a .w)) (a .n)) k)) e
 
 pub value-bytes-spec : {M : Type 1} → statement M
 value-bytes-spec =
