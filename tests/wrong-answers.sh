@@ -3,8 +3,8 @@
 # of must-fail/. That they are refused is for the gate and for wrong-answers/try.
 set -u
 status=0
-for edit in wrong-answers/*/*.edit; do
-    crate=$(basename "$(dirname "$edit")")
+for edit in crates/*/must-fail/*.edit wrong-answers/*/*.edit; do
+    crate=$(basename "$(dirname "${edit/must-fail\//}")")
     while IFS= read -r line; do
         case $line in
         'file: '*) file=crates/$crate/${line#file: } ;;
