@@ -19,8 +19,9 @@ use Rattle.circuit.proofs.Shapes.{Shaped}
 use Rattle.circuit.proofs.RuleLaws.{circuit-fits, CircuitFits}
 use Rattle.stored.specs.declared.Reading.{Reading}
 use Rattle.stored.specs.Stored.{listingIn}
-use Rattle.stored.specs.Reading.{readAnswer, reading, readingOf}
+use Rattle.stored.specs.Reading.{readAnswer, readingOf}
 use Rattle.stored.proofs.Round.{listing-accepted}
+use Rattle.stored.proofs.Restoring.{read-answer, read-circuit}
 use Rattle.targets.specs.Target.{Target, isMatrix, targetBytes, targetFits, targetOf}
 use Rattle.targets.specs.Wanted.{wantedOf}
 use Rattle.targets.proofs.Fitting.{kind-of, bytes-of, target-short}
@@ -58,19 +59,10 @@ module _ (s : State) (f : CircuitFits (isMatrix (s .target)) (s .circuit)) where
 -- ---- what the reader's result shows
 
 module _ (only : Bool) (s : List ℕ) (r : Reading) (is : r ≡ readingOf only s) where
-  pub read-answer : r .answer ≡ readAnswer only s
-  read-answer = ap (λ (x : Reading). x .answer) is ∙ same (readAnswer only s) where
-    same : (a : Answer) → reading a (listingIn s) .answer ≡ a
-    same Done = refl
-    same (Refused w) = refl
-
-  pub read-circuit : r .answer ≡ Done → r .circuit ≡ held (listingIn s)
-  read-circuit h = ap (λ (x : Reading). x .circuit) is ∙ ap (λ (a : Answer). reading a (listingIn s) .circuit) (sym read-answer ∙ h)
-
   pub read-shaped : r .answer ≡ Done → Shaped (r .circuit .n) (r .circuit .m) (r .circuit .g)
   read-shaped h =
-      let f = circuit-fits only (listingIn s) (listing-accepted only s (sym read-answer ∙ h)) in
-      subst (λ (c : Circuit). Shaped (c .n) (c .m) (c .g)) (sym (read-circuit h)) (f .shape)
+      let f = circuit-fits only (listingIn s) (listing-accepted only s (sym (read-answer only s r is) ∙ h)) in
+      subst (λ (c : Circuit). Shaped (c .n) (c .m) (c .g)) (sym (read-circuit only s r is h)) (f .shape)
 
 -- ---- the call
 

@@ -124,7 +124,7 @@ runs-from b p k (call ∷ calls) u =
     let rest = runs-from next (afterCall p call) (step-stands p k step) calls (u .1) in
     (rest .0, RunsBy.more next step (rest .1))
 
--- so whatever is called, with limits that are bytes, there is a bench after it
+-- so whatever is called, with limits that can be held, there is a bench after it
 pub runs-exist : (calls : List Call) → AllCallable calls → (b : Bench) × Runs emptyBench calls b
 runs-exist calls u = runs-from emptyBench nothing empty-stands calls u
 

@@ -1,19 +1,17 @@
 -- What a sound state shows, and what a bench that stands for it has. Assumes nothing.
-use mathlib.Core.Path.{_≡_, refl, ap, _∙_, sym}
+use mathlib.Core.Path.{_≡_, ap, sym}
 use mathlib.Core.Bool.{Bool, true}
 use mathlib.Core.List.{List, _++_}
 use Prim.Native.Nat.{ℕ, _≤_, _<_, _-_, _+_}
 use native.Mathlib.Omega.{arith}
-use lib.ListN.{length, getD, take, replicate, length-replicate, length-take, List·getD-eq-default}
-use mathlib.Core.Logic.{⊎-elim}
+use lib.ListN.{length, take, replicate, length-replicate, length-take}
 use Rattle.circuit.specs.Gate.{noWords}
-use Rattle.circuit.specs.Lines.{Gate, Listing, gateAt, noGate, lines, depthStep, andStep, wordsStep, inputWords, padded, gate}
+use Rattle.circuit.specs.Lines.{Gate, Listing, gateAt, lines, depthStep, andStep, wordsStep, inputWords, padded, gate}
 use Rattle.circuit.specs.Rules.{shaped}
 use Rattle.circuit.specs.Sizes.{mostInputs, mostLines}
-use Rattle.circuit.specs.Structs.{lineIn}
 use Rattle.circuit.proofs.RuleLaws.{gate-fits, CircuitFits, circuit-fits}
-use Rattle.circuit.proofs.LineLaws.{place, lines-length, lines-agree}
-use Rattle.circuit.proofs.Listed.{column-read, line-kept}
+use Rattle.circuit.proofs.LineLaws.{lines-length, lines-agree}
+use Rattle.circuit.proofs.Listed.{gate-held}
 use Rattle.targets.specs.Target.{isMatrix}
 use Rattle.bench.specs.declared.Bench.{Bench}
 use Rattle.bench.specs.State.{State, Sound}
@@ -28,28 +26,10 @@ all-below only c f j h = let q = gate-fits only (c .inputs + j) (gateAt c j) (f 
 
 -- ---- the bench of a state
 
--- the line numbers of an accepted circuit's gates are among the lines there may be; where there is no gate they are 0
-lines-kept : (only : Bool) (c : Listing) → CircuitFits only c → (k : ℕ) → (gateAt c k .left < mostLines) × (gateAt c k .right < mostLines)
-lines-kept only c f k = ⊎-elim there (λ m. gone (⊎-elim (λ e. omega arith) (λ l. omega arith) m)) (place k (length (c .gates))) where
-  there : k < length (c .gates) → (gateAt c k .left < mostLines) × (gateAt c k .right < mostLines)
-  there h = let q = gate-fits only (c .inputs + k) (gateAt c k) (f .gates k h) in (omega (arith, q .first, f .shape), omega (arith, q .second, f .shape))
-
-  gone : length (c .gates) ≤ k → (gateAt c k .left < mostLines) × (gateAt c k .right < mostLines)
-  gone h =
-      let e : gateAt c k ≡ noGate = List·getD-eq-default (c .gates) noGate h in
-      (omega (arith, ap (λ (q : Gate). q .left) e), omega (arith, ap (λ (q : Gate). q .right) e))
-
 -- gate k of the bench of a state is gate k of its circuit
 pub gate-of : (s : State) → CircuitFits (isMatrix (s .target)) (s .circuit) → (k : ℕ) → gateOn (fullBench s) k ≡ gateAt (s .circuit) k
 unfolding fullBench
-gate-of s f k =
-    let qs = s .circuit .gates in
-    let o = lines-kept (isMatrix (s .target)) (s .circuit) f k in
-    let a = column-read (λ (q : Gate). q .left) refl qs k in
-    let b = column-read (λ (q : Gate). q .right) refl qs k in
-    let x = ap lineIn a ∙ line-kept (gateAt (s .circuit) k .left) (o .0) in
-    let y = ap lineIn b ∙ line-kept (gateAt (s .circuit) k .right) (o .1) in
-    λ i. gate (column-read (λ (q : Gate). q .kind) refl qs k i) (x i) (y i)
+gate-of s f k = gate-held (isMatrix (s .target)) (s .circuit) f k
 
 -- padding lines is what the examination leaves past the last
 pub entries-padded : {A : Type 0} (step : ℕ → Gate → List A → A) (d : A) (ins : List A) (gate : ℕ → Gate) (n g : ℕ) → length ins ≡ n

@@ -3,16 +3,18 @@ use mathlib.Core.Path.{_≡_, refl, ap, _∙_, sym}
 use mathlib.Core.List.{List, map}
 use Prim.Native.Nat.{ℕ, _<_, _≤_, _-_, _+_}
 use mathlib.Core.Bool.{Bool}
+use mathlib.Core.Logic.{⊎-elim}
 use native.Mathlib.Nat.{mod-eq-of-lt}
 use native.Mathlib.Omega.{arith}
-use lib.ListN.{length, getD, List·getD-map}
+use lib.ListN.{length, getD, List·getD-map, List·getD-eq-default}
 use Rattle.circuit.specs.declared.Circuit.{Circuit}
 use Rattle.circuit.specs.declared.Answer.the-variants.{Done}
 use Rattle.circuit.specs.Sizes.{mostOutputs, mostGates, mostLines}
 use Rattle.circuit.specs.Lines.{Gate, Listing, gate, noGate, listing, gateAt, upto}
 use Rattle.circuit.specs.Structs.{column, lineIn, held, gateOf, outOf, listed}
 use Rattle.circuit.specs.Rules.{listingAnswer}
-use Rattle.circuit.proofs.RuleLaws.{gate-fits, out-below, circuit-fits}
+use Rattle.circuit.proofs.RuleLaws.{gate-fits, out-below, CircuitFits, circuit-fits}
+use Rattle.circuit.proofs.LineLaws.{place}
 use Rattle.circuit.proofs.Padding.{pad-read}
 use Rattle.circuit.proofs.Upto.{upto-same, upto-all, upto-at}
 
@@ -28,18 +30,32 @@ column-read f e qs k = pad-read (map f qs) (mostGates - length (map f qs)) k 0 �
 pub line-kept : (x : ℕ) → x < mostLines → lineIn x ≡ x
 line-kept x h = mod-eq-of-lt h
 
--- an accepted circuit is the one that its struct stands for
+-- the line numbers of an accepted circuit's gates are among the lines there may be; where there is no gate they are 0
+lines-among : (only : Bool) (c : Listing) → CircuitFits only c → (k : ℕ) → (gateAt c k .left < mostLines) × (gateAt c k .right < mostLines)
+lines-among only c f k = ⊎-elim there (λ m. gone (⊎-elim (λ e. omega arith) (λ l. omega arith) m)) (place k (length (c .gates))) where
+  there : k < length (c .gates) → (gateAt c k .left < mostLines) × (gateAt c k .right < mostLines)
+  there h = let q = gate-fits only (c .inputs + k) (gateAt c k) (f .gates k h) in (omega (arith, q .first, f .shape), omega (arith, q .second, f .shape))
+
+  gone : length (c .gates) ≤ k → (gateAt c k .left < mostLines) × (gateAt c k .right < mostLines)
+  gone h =
+      let e : gateAt c k ≡ noGate = List·getD-eq-default (c .gates) noGate h in
+      (omega (arith, ap (λ (q : Gate). q .left) e), omega (arith, ap (λ (q : Gate). q .right) e))
+
+-- so its struct has the same gates
+pub gate-held : (only : Bool) (c : Listing) → CircuitFits only c → (k : ℕ) → gateOf (held c) k ≡ gateAt c k
+gate-held only c f k =
+    let qs = c .gates in
+    let o = lines-among only c f k in
+    let x = ap lineIn (column-read (λ (q : Gate). q .left) refl qs k) ∙ line-kept _ (o .0) in
+    let y = ap lineIn (column-read (λ (q : Gate). q .right) refl qs k) ∙ line-kept _ (o .1) in
+    λ i. gate (column-read (λ (q : Gate). q .kind) refl qs k i) (x i) (y i)
+
+-- and stands for it
 pub listed-held : (only : Bool) (c : Listing) → listingAnswer only c ≡ Done → listed (held c) ≡ c
 listed-held only c h =
     let f = circuit-fits only c h in
-    let few : c .inputs + length (c .gates) ≤ mostLines = omega (arith, f .shape .n-most, f .shape .g-most) in
-    let qs = c .gates in
-    let g = upto-same (gateOf (held c)) (λ (k : ℕ). getD qs k noGate) (length qs) (λ k l.
-    let o = gate-fits only (c .inputs + k) (getD qs k noGate) (f .gates k l) in
-    let x = ap lineIn (column-read (λ (q : Gate). q .left) refl qs k) ∙ line-kept _ (omega (arith, o .first)) in
-    let y = ap lineIn (column-read (λ (q : Gate). q .right) refl qs k) ∙ line-kept _ (omega (arith, o .second)) in
-    λ i. gate (column-read (λ (q : Gate). q .kind) refl qs k i) (x i) (y i)) ∙ upto-all qs noGate in
+    let g = upto-same (gateOf (held c)) (gateAt c) (length (c .gates)) (λ k l. gate-held only c f k) ∙ upto-all (c .gates) noGate in
     let o = upto-same (outOf (held c)) (λ (k : ℕ). getD (c .outs) k 0) (length (c .outs)) (λ k l.
     ap lineIn (pad-read (c .outs) (mostOutputs - length (c .outs)) k 0)
-    ∙ line-kept _ (omega (arith, out-below (c .inputs + length qs) (getD (c .outs) k 0) (f .outs k l)))) ∙ upto-all (c .outs) 0 in
+    ∙ line-kept _ (omega (arith, out-below (c .inputs + length (c .gates)) (getD (c .outs) k 0) (f .outs k l), f .shape))) ∙ upto-all (c .outs) 0 in
     λ i. listing (c .inputs) (g i) (o i)

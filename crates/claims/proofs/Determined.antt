@@ -1,8 +1,9 @@
 -- For each public function: two results that meet its promise are equal, the answer, the bench and each lent byte.
 --
 -- A promise that is an equation, `r ≡ x`, is under `determined`, whatever r is. These are:
---   circuit:  low_byte, no_circuit, gate::{eval_gate, second_read, and_weight, tally}, depth::{deeper, greatest_of, depth_of},
---             reader::{is_shape, check_gate, check_output, read}, restore::writing_code, and, in the first half of their promise, wide and refusal_no
+--   circuit:  low16, low_byte, from_byte, no_circuit, gate::{eval_gate, second_read, and_weight, tally}, depth::{deeper, greatest_of, depth_of},
+--             rules::{is_shape, check_gate, check_output}, and, in the first half of their promise, wide, wide16, line_index and refusal_no
+--   stored:   reader::read, restore::writing_code
 --   distance: distance, distance_no, refusal_no, table::cost
 --   builder:  plan
 --   targets:  rules::{value_fits, target_fits}, wanted::{input_words, wanted_words}
@@ -12,8 +13,8 @@
 -- A promise that says more has its own lemma:
 --   | function                                                 | lemma                                             |
 --   |----------------------------------------------------------|---------------------------------------------------|
---   | circuit writer::write                                    | write-determined                                  |
---   | circuit restore::restored, linked::allpawasi_restore     | restore-determined                                |
+--   | stored writer::write                                     | write-determined                                  |
+--   | stored restore::restored, linked::allpawasi_restore      | restore-determined                                |
 --   | distance table::take_in, table::fill                     | take-in-determined, fill-determined               |
 --   | builder build                                            | build-determined                                  |
 --   | builder build_no, linked::allpawasi_build                | build-number-determined                           |
@@ -69,7 +70,7 @@ use Rattle.talk.proofs.Unique as talking
 pub determined : {A : Type 0} {r s x : A} → r ≡ x → s ≡ x → r ≡ s
 determined p q = p ∙ sym q
 
--- ---- circuit, distance and builder
+-- ---- stored, distance and builder
 
 pub write-determined : (c : Circuit) (room : List ℕ) (r s : Writing) (out last : List ℕ) → Wrote c room r out → Wrote c room s last → (r ≡ s) × (out ≡ last)
 write-determined = writing.wrote-unique

@@ -240,6 +240,6 @@ pub from-any-bench : {b last : Bench} {bytes : List ℕ} {t : Target} {l : Limit
     → Runs b (opening bytes t l ∷ calls) last → Runs emptyBench (opening bytes t l ∷ calls) last
 from-any-bench e (RunsBy.more mid step rest) = RunsBy.more mid (laws.open-otherwise asTheyAre emptyBench e step) rest
 
--- Whatever is called, with limits that are bytes, there is a bench after it: none of this speaks of nothing.
+-- Whatever is called, with limits that can be held, there is a bench after it: none of this speaks of nothing.
 pub calls-go-on : (calls : List Call) → AllCallable calls → (b : Bench) × Runs emptyBench calls b
 calls-go-on = laws.runs-exist

@@ -1,4 +1,4 @@
--- Laws of writing a part of a list over, and of lists that grow at the end. Assumes nothing.
+-- Laws of writing a part of a list over, and of the bytes of one gate or output more. Assumes nothing.
 use mathlib.Core.Path.{_≡_, refl, ap, _∙_, sym}
 use mathlib.Core.List.{List, [], _∷_, _++_, append-assoc, append-nil}
 use Prim.Native.Nat.{ℕ, zero, suc, _≤_, _+_, _*_}

@@ -29,9 +29,13 @@ pub answer-of : (a : Answer) (c : Listing) → reading a c .answer ≡ a
 answer-of Done c = refl
 answer-of (Refused w) c = refl
 
--- the reading of bytes, and its answer
-pub read-answer : (only : Bool) (s : List ℕ) (r : Reading) (a : Answer) → r ≡ readingOf only s → r .answer ≡ a → readAnswer only s ≡ a
-read-answer only s r a p q = sym (answer-of (readAnswer only s) (listingIn s)) ∙ sym (ap (λ (x : Reading). x .answer) p) ∙ q
+-- what the reader gave for some bytes: their answer, and the circuit that they hold where they are accepted
+module _ (only : Bool) (s : List ℕ) (r : Reading) (is : r ≡ readingOf only s) where
+  pub read-answer : r .answer ≡ readAnswer only s
+  read-answer = ap (λ (x : Reading). x .answer) is ∙ answer-of (readAnswer only s) (listingIn s)
+
+  pub read-circuit : r .answer ≡ Done → r .circuit ≡ held (listingIn s)
+  read-circuit h = ap (λ (x : Reading). x .circuit) is ∙ ap (λ (a : Answer). reading a (listingIn s) .circuit) (sym read-answer ∙ h)
 
 -- what one answer of a restoring leaves, once the answer is known
 left : (only : Bool) (s R : List ℕ) (a : Answer) → readAnswer only s ≡ a → (r : ℕ) (out : List ℕ)
@@ -44,16 +48,16 @@ left only s R a e r out p q =
 
 pub refused : (only : Bool) (s R : List ℕ) (r : Reading) (w : Refusal) (code : ℕ) → r ≡ readingOf only s → r .answer ≡ Refused w
     → code ≡ writingCode (NotWritten w) → Restored only s R code R
-refused only s R r w code p q e = left only s R (Refused w) (read-answer only s r (Refused w) p q) code R e refl
+refused only s R r w code p q e = left only s R (Refused w) (sym (read-answer only s r p) ∙ q) code R e refl
 
 -- writing what was read
 pub restored : (only : Bool) (s R out : List ℕ) (r : Reading) (w : Writing) (code : ℕ) → r ≡ readingOf only s → r .answer ≡ Done
     → Wrote (r .circuit) R w out → code ≡ writingCode w → Restored only s R code out
 unfolding writeAnswer
 restored only s R out r w code p q m e =
-    let h = read-answer only s r Done p q in
+    let h = sym (read-answer only s r p) ∙ q in
     let c = held (listingIn s) in
-    let z : r .circuit ≡ c = ap (λ (x : Reading). x .circuit) p ∙ ap (λ (a : Answer). reading a (listingIn s) .circuit) h in
+    let z : r .circuit ≡ c = read-circuit only s r p q in
     let t : stored (listed c) ≡ s = ap stored (listed-held only (listingIn s) (listing-accepted only s h)) ∙ stored-listing only s h in
     let y : shaped (c .n) (c .m) (c .g) ≡ true =
     ap (λ (x : Circuit). shaped (x .n) (x .m) (x .g)) (sym (held-is s)) ∙ shape-true _ _ _ (accepted only s h .shape) in

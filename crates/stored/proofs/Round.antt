@@ -41,14 +41,14 @@ past-gates c =
 -- ---- every line number of an accepted circuit fits a byte
 
 -- an accepted gate's operands, on a line that a byte can name
-operands-kept : (only : Bool) (line : ℕ) (q : Gate) → gateAnswer only line q ≡ Done → line ≤ 256 → (inByte (q .left) ≡ q .left) × (inByte (q .right) ≡ q .right)
-operands-kept only line q h l =
+operands-in-byte : (only : Bool) (line : ℕ) (q : Gate) → gateAnswer only line q ≡ Done → line ≤ 256 → (inByte (q .left) ≡ q .left) × (inByte (q .right) ≡ q .right)
+operands-in-byte only line q h l =
     let f = gate-fits only line q h in
     (mod-eq-of-lt (omega (arith, f .first)), mod-eq-of-lt (omega (arith, f .second)))
 
 -- an accepted output's line
-line-kept : (lines line : ℕ) → outAnswer lines line ≡ Done → lines ≤ 256 → inByte line ≡ line
-line-kept lines line h l = mod-eq-of-lt (omega (arith, out-below lines line h))
+line-in-byte : (lines line : ℕ) → outAnswer lines line ≡ Done → lines ≤ 256 → inByte line ≡ line
+line-in-byte lines line h l = mod-eq-of-lt (omega (arith, out-below lines line h))
 
 -- ---- gates and outputs come back from their records, each answered as it was
 
@@ -59,7 +59,7 @@ module _ (only : Bool) where
   gates-read line [] rest h l = (refl, refl)
   gates-read line (q ∷ qs) rest h l =
       let t = then-done (gateAnswer only line q) (gatesAnswer only (suc line) qs) h in
-      let k = operands-kept only line q (t .0) (omega arith) in
+      let k = operands-in-byte only line q (t .0) (omega arith) in
       let r = gates-read (suc line) qs rest (t .1) (omega arith) in (
         λ i. gate (q .kind) (k .0 i) (k .1 i) ∷ r .0 i,
         (λ i. andThen (gateAnswer only line (gate (q .kind) (k .0 i) (k .1 i))) (r .1 i)) ∙ ap (λ (a : Answer). andThen a Done) (t .0),
@@ -71,7 +71,7 @@ unfolding records answers outBytes outsAnswer outRecord
 outs-read lines k [] h l = (refl, refl)
 outs-read lines k (o ∷ os) h l =
     let t = then-done (outAnswer lines o) (outsAnswer lines os) h in
-    let e = line-kept lines o (t .0) l in
+    let e = line-in-byte lines o (t .0) l in
     let r = outs-read lines (suc k) os (t .1) l in (
       λ i. e i ∷ r .0 i,
       (λ i. andThen (outAnswer lines (e i)) (r .1 i)) ∙ ap (λ (a : Answer). andThen a Done) (t .0),
@@ -172,7 +172,7 @@ gates-back only line (suc c) s h l w =
     let t = then-done (gateHere only line s) (answers (gateHere only) 5 (suc line) c (drop 5 s)) h in
     let k = gate-mark only line s (t .0) in
     let a = k .1 in
-    let o = operands-kept only line (gateIn s) a (omega arith) in
+    let o = operands-in-byte only line (gateIn s) a (omega arith) in
     let e : 5 * suc c ≡ 5 + 5 * c = omega (arith, mul-suc 5 c) in
     let b = gates-back only (suc line) c (drop 5 s) (t .1) (omega (arith, length-drop 5 s)) (omega arith) in
     let r : gateBytes (records gateIn 5 c (drop 5 s)) ++ drop (5 * suc c) s ≡ drop 5 s =
@@ -190,7 +190,7 @@ outs-back lines k (suc c) s h l w =
     let t = then-done (outHere lines k s) (answers (outHere lines) 3 (suc k) c (drop 3 s)) h in
     let q = out-mark lines k s (t .0) in
     let r = outs-back lines (suc k) c (drop 3 s) (t .1) (omega (arith, length-drop 3 s, mul-suc 3 c)) w in
-    let e = line-kept lines (getD s 2 0) (q .1) w in (
+    let e = line-in-byte lines (getD s 2 0) (q .1) w in (
       (λ i. sym (q .0 .0) i ∷ sym (q .0 .1) i ∷ e i ∷ r .0 i) ∙ three s (omega (arith, mul-suc 3 c)),
       ap₂ andThen (q .1) (r .1),
     )

@@ -1,4 +1,4 @@
--- The stored form of a circuit ("Stored form"): what its bytes are, what circuit some bytes hold.
+-- The stored form of a circuit ("Stored form"): what its bytes are, and what circuit some bytes hold.
 use mathlib.Core.List.{List, [], _∷_, _++_}
 use Prim.Native.Nat.{ℕ, zero, suc, _+_, _*_, _%_}
 use lib.ListN.{length, getD, drop}

@@ -1,4 +1,4 @@
--- `examine`: the loop keeps `Examining`; every index is a byte or a line of the circuit.
+-- `examine`: the loop keeps `Examining`; every index is one of the lines there may be.
 use borrow.Author.Needs.{needs}
 use mathlib.Core.Path.{refl, _∙_, ap}
 use Prim.Native.Nat.{_-_}
