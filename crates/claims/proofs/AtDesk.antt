@@ -8,6 +8,7 @@ use Prim.Native.Nat.{ℕ}
 use lib.ListN.{take}
 use Rattle.circuit.specs.declared.Answer.{Answer}
 use Rattle.circuit.specs.declared.Answer.the-variants.{Done}
+use Rattle.drawing.specs.Drawing.{drawnAnswer, drawnBytes}
 use Rattle.bench.specs.declared.Bench.{Bench}
 use Rattle.bench.specs.declared.Edit.{Edit}
 use Rattle.bench.specs.State.{State, Present, nothing, present}
@@ -17,10 +18,10 @@ use Rattle.bench.specs.Run.{Call, presentAfter, Runs}
 use Rattle.bench.proofs.Readers.{Lists}
 use Rattle.bench.proofs.RunLaws.{after-calls}
 use Rattle.bench.proofs.Unique.{one-present}
-use Rattle.script.specs.Order.{Order, askNew, askReport, askGate}
+use Rattle.script.specs.Order.{Order, askNew, askReport, askGate, askEquations}
 use Rattle.script.specs.Reading.{orderIn}
 use Rattle.talk.specs.declared.Told.{Told}
-use Rattle.talk.specs.Texts.{acceptedText, reworkedText, reportedText}
+use Rattle.talk.specs.Texts.{acceptedText, reworkedText, reportedText, drawnText}
 use Rattle.talk.specs.Talk.{Deed, calling, deedOf, presentBy, presentAfterLines, textOf, written, callsTyped, Answers}
 use Rattle.talk.proofs.Sessions.{Session, session-from-empty, sessions-go-on}
 use Rattle.talk.proofs.Typed as typed
@@ -97,3 +98,7 @@ module _ {lines : List (List ℕ)} {text : List ℕ} {b : Bench} (session : Sess
     -- and so does a line that makes no call: one that is not readable, a remark, and one that only looks.
     pub no-call-leaves : deedOf (orderIn line) ≡ calling [] → r .bench ≡ b
     no-call-leaves e = leaves (calling []) e ∙ sym (stands .is)
+
+    -- `equations` writes the stored circuit of the file, or the refusal with its place, and leaves the bench.
+    pub equations-writes : (file : List ℕ) (room : ℕ) → orderIn line ≡ askEquations file room → (bytes ≡ drawnText (drawnAnswer file room) (drawnBytes file)) × (r .bench ≡ b)
+    equations-writes file room e = (says (askEquations file room) e, no-call-leaves (ap deedOf e))

@@ -30,14 +30,14 @@ Some P xs = (i : ℕ) × ((i < length xs) × P (getD xs i 0))
 
 -- ---- a cause that is there, one that is not, and the end
 
-hit : (number : ℕ) {cause : Type 0} (rest : ℕ → Type 0) → cause → GivenExactly number (first number cause rest)
+pub hit : (number : ℕ) {cause : Type 0} (rest : ℕ → Type 0) → cause → GivenExactly number (first number cause rest)
 hit number {cause} rest c n = (λ e. inl (c, sym e), back)
   where
     back : first number cause rest n → number ≡ n
     back (inl h) = sym (h .1)
     back (inr h) = absurd (h .0 c)
 
-miss : (number other : ℕ) {cause : Type 0} (rest : ℕ → Type 0) → (cause → ⊥) → GivenExactly other rest → GivenExactly other (first number cause rest)
+pub miss : (number other : ℕ) {cause : Type 0} (rest : ℕ → Type 0) → (cause → ⊥) → GivenExactly other rest → GivenExactly other (first number cause rest)
 miss number other {cause} rest c g n = (λ e. inr (c, g n .0 e), back)
   where
     back : first number cause rest n → other ≡ n
@@ -46,6 +46,15 @@ miss number other {cause} rest c g n = (λ e. inr (c, g n .0 e), back)
 
 pub none-left : GivenExactly 0 accepted
 none-left n = (sym, sym)
+
+-- what a table says of a number: past a cause that has another, and at its own, where the rest does not say it
+pub past-cause : {cause none rest : Type 0} {number n : ℕ} → (n ≡ number → ⊥) → (cause × (n ≡ number)) ⊎ (none × rest) → none × rest
+past-cause other (inl h) = absurd (other (h .1))
+past-cause other (inr h) = h
+
+pub own-cause : {cause own none rest : Type 0} → (rest → ⊥) → (cause × own) ⊎ (none × rest) → cause
+own-cause silent (inl h) = h .0
+own-cause silent (inr h) = absurd (silent (h .1))
 
 -- ---- tests
 

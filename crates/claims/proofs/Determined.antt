@@ -6,6 +6,9 @@
 --   stored:   reader::read, restore::writing_code
 --   distance: distance, distance_no, refusal_no, table::cost
 --   builder:  plan
+--   formula:  text::{byte_at, span, scan}, names::{low_key, high_key, few_names, look_up}, emit::{gates_in, new_line}, and, in the first half of its
+--             promise, text::sees
+--   sheet:    read_file
 --   targets:  rules::{value_fits, target_fits}, wanted::{input_words, wanted_words}
 --   bench:    opening::empty, edits::is_standing, storing::circuit_of
 --   lent:     linked::allpawasi_distance
@@ -18,6 +21,11 @@
 --   | distance table::take_in, table::fill                     | take-in-determined, fill-determined               |
 --   | builder build                                            | build-determined                                  |
 --   | builder build_no, linked::allpawasi_build                | build-number-determined                           |
+--   | formula emit::{clear, add_gate, add_not}                 | gates-determined                                  |
+--   | formula emit::use_line                                   | use-line-determined                               |
+--   | formula levels::read_or                                  | formula-determined                                |
+--   | drawing equations                                        | equations-determined                              |
+--   | coded equations, linked::allpawasi_equations             | equations-code-determined                         |
 --   | bench, report, lent, coded and lent linked:              |                                                   |
 --   |   open_matrix, open_table                                | open-determined                                   |
 --   |   replace_gate                                           | replace-gate-determined                           |
@@ -28,13 +36,13 @@
 --   | text put, put_labelled, put_numbered, put_numbers,       |                                                   |
 --   |   put_hex, put_unhex                                     | put-determined                                    |
 --   | text next_word, to_front                                 | next-word-determined, to-front-determined         |
---   | listing put_counts, put_lines, put_refused               | put-determined                                    |
+--   | listing put_counts, put_lines, put_refused, put_placed   | put-determined                                    |
 --   | script call_in                                           | call-in-determined                                |
 --   | talk answer_line                                         | answer-line-determined                            |
 -- Those of the bench are for answers given in any view: as they are (`asTheyAre`) by bench, report and lent, as numbers (`asNumbers`) by coded and linked.
 use mathlib.Core.Path.{_≡_, sym, ap, _∙_}
 use mathlib.Core.Bool.{Bool}
-use mathlib.Core.List.{List}
+use mathlib.Core.List.{List, []}
 use Prim.Native.Nat.{ℕ, _-_, min}
 use lib.ListN.{length}
 use Rattle.circuit.specs.declared.Circuit.{Circuit}
@@ -46,6 +54,14 @@ use Rattle.distance.specs.Table.{TakenIn, Filled}
 use Rattle.distance.proofs.Unique as distances
 use Rattle.builder.specs.Call.{Builds, BuildsNumbered}
 use Rattle.builder.proofs.Promise as building
+use Rattle.formula.specs.declared.Gates.{Gates}
+use Rattle.formula.specs.declared.Tip.{Tip}
+use Rattle.formula.specs.declared.Answer.{Answer}
+use Rattle.formula.specs.declared.Read.{Read}
+use Rattle.formula.specs.Emit.{gatesAt, readAt, useLine}
+use Rattle.formula.proofs.Unique as reading
+use Rattle.drawing.specs.declared.Drawn.{Drawn}
+use Rattle.drawing.specs.Drawing.{EquationsPromise}
 use Rattle.targets.specs.Target.{Target}
 use Rattle.bench.specs.declared.Bench.{Bench}
 use Rattle.bench.specs.State.{Limits, Present}
@@ -54,6 +70,8 @@ use Rattle.bench.specs.Calls.{View, OpenGiven, GateGiven, OutputGiven, EntryGiv
 use Rattle.bench.specs.Run.{Call, presentAfter, Runs}
 use Rattle.bench.proofs.RunLaws.{after-calls}
 use Rattle.bench.proofs.Unique as benches
+use Rattle.coded.specs.declared.ReadingNumbers.{ReadingNumbers}
+use Rattle.coded.specs.Coded.{EquationsCode}
 use Rattle.text.specs.declared.Word.{Word}
 use Rattle.text.specs.Places.{NextWord}
 use Rattle.text.specs.Putting.{PutFree, fronted}
@@ -70,7 +88,7 @@ use Rattle.talk.proofs.Unique as talking
 pub determined : {A : Type 0} {r s x : A} → r ≡ x → s ≡ x → r ≡ s
 determined p q = p ∙ sym q
 
--- ---- stored, distance and builder
+-- ---- stored, distance, builder, formula and drawing
 
 pub write-determined : (c : Circuit) (room : List ℕ) (r s : Writing) (out last : List ℕ) → Wrote c room r out → Wrote c room s last → (r ≡ s) × (out ≡ last)
 write-determined = writing.wrote-unique
@@ -92,6 +110,27 @@ build-determined = building.build-unique
 pub build-number-determined : (n : ℕ) (ts : List ℕ) (D : ℕ) (room : List ℕ) (r s : ℕ) (out last : List ℕ) → BuildsNumbered n ts D room r out
     → BuildsNumbered n ts D room s last → (r ≡ s) × (out ≡ last)
 build-number-determined = building.numbered-unique
+
+-- gates in three rows that are lent, and what is known of them
+pub gates-determined : (rows last : List (List ℕ)) (r s : Tip) (x : Gates) → length rows ≡ 3 → length last ≡ 3 → gatesAt rows r ≡ x → gatesAt last s ≡ x
+    → (r ≡ s) × (rows ≡ last)
+gates-determined rows last r s x h k p q = let e = determined p q in (reading.tip-determined rows last r s e, reading.rows-determined rows last r s e h k)
+
+pub use-line-determined : (t r s : Tip) (v : ℕ) → ((l : List (List ℕ)) → gatesAt l r ≡ useLine (gatesAt l t) v) → ((l : List (List ℕ)) → gatesAt l s ≡ useLine (gatesAt l t) v)
+    → r ≡ s
+use-line-determined t r s v p q = reading.tip-determined [] [] r s (determined (p []) (q []))
+
+pub formula-determined : (rows last : List (List ℕ)) (r s : Answer) (x : Read) → length rows ≡ 3 → length last ≡ 3 → readAt rows r ≡ x → readAt last s ≡ x
+    → (r ≡ s) × (rows ≡ last)
+formula-determined rows last r s x h k p q = reading.read-determined rows last r s (determined p q) h k
+
+pub equations-determined : (file room : List ℕ) (r s : Drawn) (out last : List ℕ) → EquationsPromise file room r out → EquationsPromise file room s last
+    → (r ≡ s) × (out ≡ last)
+equations-determined file room r s out last p q = (determined (p .answer) (q .answer), determined (p .bytes) (q .bytes))
+
+pub equations-code-determined : (file room : List ℕ) (r s : ReadingNumbers) (out last : List ℕ) → EquationsCode file room r out → EquationsCode file room s last
+    → (r ≡ s) × (out ≡ last)
+equations-code-determined file room r s out last p q = (determined (p .answer) (q .answer), determined (p .bytes) (q .bytes))
 
 -- ---- text, listing and script
 

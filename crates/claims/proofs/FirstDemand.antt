@@ -3,10 +3,11 @@
 use mathlib.Core.Path.{_≡_, refl, sym, ap, _∙_, subst}
 use mathlib.Core.Bool.{Bool, true, false, cond}
 use mathlib.Core.List.{List, [], _∷_, map}
-use Prim.Native.Nat.{ℕ, zero, suc, _+_, _*_, _^_, _<_, _-_, _/_}
+use Prim.Native.Nat.{ℕ, zero, suc, _+_, _*_, _^_, _≤_, _<_, _-_, _/_}
 use native.Mathlib.Omega.{arith}
+use native.Mathlib.Decide.{decLt}
 use lib.Dec.{leb}
-use lib.ListN.{length, getD, length-append}
+use lib.ListN.{length, getD, length-append, List·getD-eq-default}
 use Rattle.circuit.specs.declared.Refusal.{Refusal}
 use Rattle.circuit.specs.declared.Refusal.the-variants.{Target as BadTarget, NoRoom, NotThere, Shape, Length, Mark, UnknownKind, Operand, NoLine, NotXor, TooDeep, TooShallow, NothingOpen}
 use Rattle.circuit.specs.declared.Answer.{Answer}
@@ -23,7 +24,7 @@ use Rattle.stored.specs.declared.Writing.{Writing}
 use Rattle.stored.specs.Stored.{stored, listingIn, gateBytes, outBytes}
 use Rattle.stored.specs.Reading.{readAnswer, readStored, readingOf}
 use Rattle.stored.specs.Reading.Outcome.{found}
-use Rattle.stored.specs.Writing.{writingNo, writeAnswer, roomAfter, Wrote, writingCode, intoRoom, restoreAnswer, Restored}
+use Rattle.stored.specs.Writing.{writingNo, roomAfter, Wrote, writingCode, intoRoom, restoreAnswer, Restored}
 use Rattle.stored.proofs.Accept.{whole}
 use Rattle.stored.proofs.Round.{gate-bytes-length, out-bytes-length, read-stored, stored-read}
 use Rattle.stored.proofs.Restoring.{answer-of}
@@ -38,6 +39,8 @@ use Rattle.distance.proofs.Refuse.{fit}
 use Rattle.builder.specs.Call.{built, refusal, buildAnswer, Builds, BuildsNumbered}
 use Rattle.builder.proofs.Refusals as building
 use Rattle.builder.proofs.Promise.{built-few, built-outs}
+use Rattle.drawing.specs.declared.Drawn.the-variants.{BadText, BadName, NoOutputs}
+use Rattle.drawing.specs.Drawing.{drawnNo}
 use Rattle.targets.specs.Target.{Target, isMatrix}
 use Rattle.bench.specs.declared.Bench.{Bench}
 use Rattle.bench.specs.declared.Edit.{Edit}
@@ -52,9 +55,9 @@ use Rattle.bench.proofs.RunLaws.{after-calls, step-exists}
 use Rattle.coded.specs.declared.EditNumbers.{EditNumbers}
 use Rattle.coded.specs.declared.ReportNumbers.{ReportNumbers}
 use Rattle.coded.specs.Coded.{reportedCode, OpenCode, GateCode, OutputCode, EntryCode, LimitsCode, ReportCodePromise, StoreCode}
-use Rattle.claims.proofs.Causes.{first, accepted, GivenExactly, none-left, chain}
+use Rattle.claims.proofs.Causes.{first, accepted, GivenExactly, none-left}
 use Rattle.claims.proofs.Tables.{OutOfRange, readTable, openTable, replaceTable, pointTable, changeTable, openOnly, storeTable, buildTable, distanceTable, callNo, callTable}
-use Rattle.claims.proofs.Following.{range-law, done-last, read-law, open-law, replace-law, point-law, change-law, limits-law, report-law, room-law, store-law, room-then, room-last, build-law, distance-law}
+use Rattle.claims.proofs.Following.{range-law, done-last, read-law, open-law, replace-law, point-law, change-law, limits-law, report-law, write-law, store-law, room-then, room-last, build-law, distance-law}
 
 -- ---- The numbers given back: 1 to 13, one for each refusal.
 
@@ -91,6 +94,17 @@ not-zero w z = let e : w ≡ Shape = sym (numbered w) ∙ ap (λ (k : ℕ). getD
 -- and those of a distance query are numbers of this table: 1, 2, 8 and 9.
 pub query-numbers : (queryRefusalNo Inputs ≡ refusalNo Shape) × (queryRefusalNo Lists ≡ refusalNo Length) × (queryRefusalNo Mask ≡ refusalNo BadTarget) × (queryRefusalNo Depth ≡ refusalNo TooDeep)
 query-numbers = (refl, refl, refl, refl)
+
+-- An equation file has three more: 15 bad text, 16 a name that is unknown, set already or an input, 17 no input, no output or a gap in the outputs.
+pub file-numbers : (place : ℕ) → (drawnNo (BadText place) ≡ 15) × ((drawnNo (BadName place) ≡ 16) × (drawnNo NoOutputs ≡ 17))
+file-numbers place = (refl, (refl, refl))
+
+-- No other refusal has their numbers.
+pub thirteen-most : (w : Refusal) → refusalNo w ≤ 13
+thirteen-most w = by (decLt 13 (refusalNo w)) where
+  by : Dec (13 < refusalNo w) → refusalNo w ≤ 13
+  by (yes h) = let e : w ≡ Shape = sym (numbered w) ∙ List·getD-eq-default refusals Shape {n = refusalNo w - 1} (omega arith) in omega (arith, ap refusalNo e)
+  by (no h) = omega (arith, h)
 
 -- ---- All calls on a bench
 
@@ -165,11 +179,9 @@ stored-reads-back = read-stored
 -- Writing a circuit: out of range (1), the lent room shorter than the stored bytes (11).
 pub write-numbers : (c : Circuit) (room : List ℕ) (r : Writing) (out : List ℕ) → Wrote c room r out
     → GivenExactly (writingNo r) (first 1 (OutOfRange (c .n) (c .m) (c .g)) (first 11 (length room < length (stored (listed c))) accepted))
-unfolding writeAnswer
 write-numbers c room r out h =
-    let size = length (stored (listed c)) in
-    subst (λ (a : Writing). GivenExactly (writingNo a) (first 1 (OutOfRange (c .n) (c .m) (c .g)) (first 11 (length room < size) accepted))) (sym (h .answer))
-    (chain (λ t. writingNo (cond t (cond (leb size (length room)) (Written size) (NotWritten NoRoom)) (NotWritten Shape))) (range-law (c .n) (c .m) (c .g)) (room-law size (length room)))
+    subst (λ (a : Writing). GivenExactly (writingNo a) (first 1 (OutOfRange (c .n) (c .m) (c .g)) (first 11 (length room < length (stored (listed c))) accepted))) (sym (h .answer))
+    (write-law c (length room) (range-law (c .n) (c .m) (c .g)))
 
 pub write-refused : (c : Circuit) (room : List ℕ) (w : Refusal) (out : List ℕ) → Wrote c room (NotWritten w) out → out ≡ room
 write-refused c room w out h = left-alone (stored (listed c)) (h .answer) (h .bytes)

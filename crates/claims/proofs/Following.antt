@@ -11,20 +11,24 @@ use lib.Dec.{leb, eqb}
 use lib.ListN.{length, getD, drop}
 use lib.Seq.{getD-drop, drop-drop}
 use Rattle.circuit.specs.declared.Refusal.{Refusal}
-use Rattle.circuit.specs.declared.Refusal.the-variants.{UnknownKind, Operand, NotXor, Target as BadTarget, NoRoom, NotThere}
+use Rattle.circuit.specs.declared.Circuit.{Circuit}
+use Rattle.circuit.specs.declared.Refusal.the-variants.{Shape, Length, Mark, UnknownKind, Operand, NotXor, Target as BadTarget, NoRoom, NotThere}
 use Rattle.circuit.specs.declared.Answer.{Answer}
 use Rattle.circuit.specs.declared.Answer.the-variants.{Done, Refused}
 use Rattle.circuit.specs.Gate.{kindOf, allowed}
 use Rattle.circuit.specs.Lines.{Gate, Listing, gate, anyOf}
+use Rattle.circuit.specs.Structs.{listed}
 use Rattle.circuit.specs.Rules.{refusalNo, answerNo, andThen, unless, shaped, operandsFit, gateAnswer, outAnswer, allOf}
 use Rattle.circuit.specs.Sizes.{mostInputs, mostOutputs, mostGates}
 use Rattle.circuit.proofs.GateLaws.{allowed-number}
 use Rattle.circuit.proofs.Operands.{by-operands}
 use Rattle.circuit.proofs.RuleLaws.{two-fit, one-fits}
+use Rattle.circuit.proofs.Shapes.{past, then-done}
 use Rattle.stored.specs.declared.Writing.the-variants.{Written, NotWritten}
-use Rattle.stored.specs.Stored.{stored, listingIn, outIn}
-use Rattle.stored.specs.Reading.{gateRecord, outRecord, gateHere, outHere, answers, bodyAnswer, readAnswer}
-use Rattle.stored.specs.Writing.{writingNo, intoRoom}
+use Rattle.stored.specs.Stored.{SH, GT, records, gateIn, stored, listingIn, outIn}
+use Rattle.stored.specs.Reading.{isMark, gateRecord, outRecord, gateHere, outHere, answers, bodyAnswer, readAnswer, readStored, outcome}
+use Rattle.stored.specs.Reading.Outcome.{found}
+use Rattle.stored.specs.Writing.{writingNo, intoRoom, writeAnswer}
 use Rattle.stored.proofs.Records.{records-length}
 use Rattle.distance.specs.declared.Refusal.the-variants.{Inputs, Lists, Mask, Depth}
 use Rattle.distance.specs.declared.Looked.{Looked}
@@ -37,8 +41,8 @@ use Rattle.targets.specs.Target.{Target, matrix, table, isMatrix, rowFits, entr
 use Rattle.bench.specs.State.{Present, nothing, present}
 use Rattle.bench.specs.Calls.{openAnswer, gateEditAnswer, outputEditAnswer, entryAnswer, entryEditAnswer, limitsAnswer, reported, storeAnswer}
 use Rattle.coded.specs.Coded.{reportedCode}
-use Rattle.claims.proofs.Causes.{first, accepted, GivenExactly, Some, none-left, Tells, Fails, fails-as, fails-where-not, not-fails, not-tells, tells-or, tells-lt, tells-le, tells-eq, fails-and, fails-lt, fails-le, tells-some, chain-under, chain, chain-on}
-use Rattle.claims.proofs.Tables.{OutOfRange, BadOperand, gateTable, BadRow, BrokenTarget, recordsTable, gateRecordTable, outRecordTable, bodyTable, readTable, openTable, replaceTable, pointTable, entryCauses, changeTable, openOnly, storeTable, buildTable, distanceTable}
+use Rattle.claims.proofs.Causes.{first, accepted, GivenExactly, Some, none-left, Tells, Fails, tells-as, fails-as, fails-where-not, not-fails, not-tells, tells-or, tells-lt, tells-le, tells-eq, fails-and, fails-lt, fails-le, tells-some, chain-under, chain, chain-on}
+use Rattle.claims.proofs.Tables.{OutOfRange, BadOperand, gateTable, BadRow, BrokenTarget, recordsTable, gateRecordTable, outRecordTable, bodyTable, readTable, openTable, openedTable, replaceTable, pointTable, entryCauses, changeTable, openOnly, storeTable, buildTable, distanceTable}
 
 pub range-law : (n m g : ℕ) → Fails (shaped n m g) (OutOfRange n m g)
 unfolding shaped
@@ -199,6 +203,71 @@ open-law s t =
     subst (λ (k : ℕ). GivenExactly (answerNo (andThen (readAnswer (isMatrix t) s) (unless (targetFits (getD s 2 0) k t) BadTarget Done))) (openTable s t)) (sym m)
     (read-law (unless (targetFits (getD s 2 0) (getD s 3 0) t) BadTarget Done) last (isMatrix t) s)
 
+-- ---- bytes that read as a circuit: under a matrix they are refused for a gate other than XOR alone,
+
+gate-under : (line p q kind a b : ℕ) → gateRecord false line p q kind a b ≡ Done → gateRecord true line p q kind a b ≡ unless (eqb kind 0) NotXor Done
+unfolding gateRecord gateAnswer
+gate-under line p q kind a b h =
+    let m = past (isMark GT p q) Mark h in
+    let k = past (leb kind 6) UnknownKind (m .1) in
+    let o = past (operandsFit line (gate kind a b)) Operand (k .1) in
+    rw (m .0, k .0, o .0, allowed-number true kind)
+
+-- some gate is not XOR
+abbrev someOther : List Gate → Bool
+someOther qs = anyOf (map (λ (kind : ℕ). not (eqb kind 0)) (map (λ (q : Gate). q .kind) qs))
+
+gates-under : (line count : ℕ) (s : List ℕ) → answers (gateHere false) 5 line count s ≡ Done
+    → answers (gateHere true) 5 line count s ≡ unless (not (someOther (records gateIn 5 count s))) NotXor Done
+unfolding answers records
+gates-under line zero s h = refl
+gates-under line (suc count) s h =
+    let t = then-done (gateHere false line s) (answers (gateHere false) 5 (suc line) count (drop 5 s)) h in
+    let one = gate-under line (getD s 0 0) (getD s 1 0) (getD s 2 0) (getD s 3 0) (getD s 4 0) (t .0) in
+    let more = gates-under (suc line) count (drop 5 s) (t .1) in
+    (λ i. andThen (one i) (more i)) ∙ by (eqb (getD s 2 0) 0)
+  where
+    by : (u : Bool) → let v = someOther (records gateIn 5 count (drop 5 s)) in andThen (unless u NotXor Done) (unless (not v) NotXor Done) ≡ unless (not (not u || v)) NotXor Done
+    by true = refl
+    by false = refl
+
+read-under : (only : Bool) (s : List ℕ) → readAnswer false s ≡ Done → readAnswer only s ≡ unless (not (only && someOther (listingIn s .gates))) NotXor Done
+unfolding readAnswer bodyAnswer listingIn
+read-under false s h = h
+read-under true s h =
+    let n = getD s 2 0 in
+    let m = getD s 3 0 in
+    let g = getD s 4 0 in
+    let a = past (leb 5 (length s)) Length h in
+    let b = past (isMark SH (getD s 0 0) (getD s 1 0)) Mark (a .1) in
+    let c = past (shaped n m g) Shape (b .1) in
+    let d = past (eqb (length s) (5 + 5 * g + 3 * m)) Length (c .1) in
+    let e = then-done (answers (gateHere false) 5 n g (drop 5 s)) (answers (outHere (n + g)) 3 0 m (drop (5 + 5 * g) s)) (d .1) in
+    let f = gates-under n g (drop 5 s) (e .0) in
+    rw (a .0, b .0, c .0, d .0) ((λ i. andThen (f i) (e .1 i)) ∙ done-last _)
+
+-- and no open refuses them but for its target
+pub opened-law : (s : List ℕ) (c : Listing) → readStored false s ≡ found c → (t : Target) → GivenExactly (answerNo (openAnswer s t)) (openedTable c t)
+unfolding openAnswer
+opened-law s c h t = by (readAnswer false s) refl h
+  where
+    other : (only : Bool) (qs : List Gate) → Fails (not (only && someOther qs)) ((only ≡ true) × Some (λ (kind : ℕ). kind ≡ 0 → ⊥) (map (λ (q : Gate). q .kind) qs))
+    other true qs = not-fails (tells-as (λ x. (refl, x)) (λ x. x .1) (tells-some (λ kind. not-tells (fails-where-not (tells-eq kind 0))) (map (λ (q : Gate). q .kind) qs)))
+    other false qs = record { holds = λ e. absurd (true≢false e); not-else = λ e x. true≢false (sym (x .0)) }
+
+    here : readAnswer false s ≡ Done → GivenExactly (answerNo (openAnswer s t)) (openedTable (listingIn s) t)
+    here e =
+        let d = listingIn s in
+        let target = unless (targetFits (d .inputs) (length (d .outs)) t) BadTarget Done in
+        subst (λ (a : Answer). GivenExactly (answerNo (andThen a target)) (openedTable d t)) (sym (read-under (isMatrix t) s e))
+        (test NotXor Done target (other (isMatrix t) (d .gates)) (chain (λ u. answerNo (unless u BadTarget Done)) (target-law (d .inputs) (length (d .outs)) t) none-left))
+
+    by : (a : Answer) → readAnswer false s ≡ a → outcome a (listingIn s) ≡ found c → GivenExactly (answerNo (openAnswer s t)) (openedTable c t)
+    by Done e h = let z : listingIn s ≡ c = cc in subst (λ (d : Listing). GivenExactly (answerNo (openAnswer s t)) (openedTable d t)) z (here e)
+    by (Refused w) e h = let z : _≡_ {A = ℕ} 0 1 = cc in absurd (omega arith)
+
+-- ---- the other calls
+
 pub replace-law : (p : Present) (k kind a b : ℕ) → GivenExactly (answerNo (gateEditAnswer p k kind a b)) (replaceTable p k kind a b)
 unfolding gateEditAnswer
 replace-law nothing k kind a b = λ n. (sym, sym)
@@ -241,6 +310,14 @@ report-law (present s) = none-left
 -- the room is looked at last (11)
 pub room-law : (size room : ℕ) → GivenExactly (writingNo (cond (leb size room) (Written size) (NotWritten NoRoom))) (first 11 (room < size) accepted)
 room-law size room = chain (λ t. writingNo (cond t (Written size) (NotWritten NoRoom))) (fails-le size room) none-left
+
+-- storing a circuit: its shape first (1), whatever the cause of that is
+pub write-law : (c : Circuit) (room : ℕ) {cause : Type 0} → Fails (shaped (c .n) (c .m) (c .g)) cause
+    → GivenExactly (writingNo (writeAnswer c room)) (first 1 cause (first 11 (room < length (stored (listed c))) accepted))
+unfolding writeAnswer
+write-law c room x =
+    let size = length (stored (listed c)) in
+    chain (λ t. writingNo (cond t (cond (leb size room) (Written size) (NotWritten NoRoom)) (NotWritten Shape))) x (room-law size room)
 
 pub store-law : (p : Present) (room : ℕ) → GivenExactly (writingNo (storeAnswer p room)) (storeTable p room)
 unfolding storeAnswer

@@ -2,6 +2,7 @@
 pub mod FirstDemand
 pub mod SecondDemand
 pub mod ThirdDemand
+pub mod EquationFiles
 pub mod InNumbers
 pub mod AtDesk
 pub mod Examples
@@ -10,3 +11,4 @@ pub mod ToOutputs
 pub mod Tables
 pub mod Causes
 pub mod Following
+pub mod FilesFollow

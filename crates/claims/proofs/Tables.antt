@@ -1,16 +1,21 @@
 -- "Numbers given back" and "Order" of the definition as tables: for each call its causes of refusal, in plain numbers and in their order.
 use mathlib.Core.Path.{_≡_}
-use mathlib.Core.Bool.{Bool, true}
+use mathlib.Core.Bool.{Bool, true, false}
 use mathlib.Core.Logic.{_⊎_}
-use mathlib.Core.List.{List}
+use mathlib.Core.List.{List, map}
 use Prim.Native.Nat.{ℕ, zero, suc, _+_, _*_, _^_, _≤_, _<_}
 use lib.ListN.{length, getD}
-use Rattle.circuit.specs.Lines.{Listing}
+use Rattle.circuit.specs.Lines.{Gate, Listing}
 use Rattle.circuit.specs.Rules.{answerNo}
 use Rattle.stored.specs.Stored.{stored}
 use Rattle.stored.specs.Writing.{writingNo}
 use Rattle.distance.specs.Base.{weight}
 use Rattle.builder.specs.Call.{built}
+use Rattle.formula.specs.Text.{wordEnd}
+use Rattle.grammar.specs.File.{Assignment, File, Place}
+use Rattle.known.specs.Known.{Fault, NameFault}
+use Rattle.meaning.specs.Meaning.{operatorsIn, inputsIn, setsOutput}
+use Rattle.drawing.specs.Drawing.{drawnBytes}
 use Rattle.targets.specs.Target.{Target, matrix, table, isMatrix}
 use Rattle.bench.specs.State.{State, Present, nothing, present}
 use Rattle.bench.specs.Calls.{openAnswer, gateEditAnswer, outputEditAnswer, entryEditAnswer, limitsAnswer, reported, storeAnswer}
@@ -72,6 +77,14 @@ readTable only s rest =
 abbrev pub openTable : List ℕ → Target → ℕ → Type 0
 openTable s t = readTable (isMatrix t) s (first 8 (BrokenTarget (getD s 2 0) (getD s 3 0) t) accepted)
 
+-- a gate of the circuit is not XOR
+abbrev pub OtherThanXor : Listing → Type 0
+OtherThanXor c = Some (λ (kind : ℕ). kind ≡ 0 → ⊥) (map (λ (q : Gate). q .kind) (c .gates))
+
+-- open, of bytes that read as the circuit c: under a matrix a gate other than XOR (7), last the target (8)
+abbrev pub openedTable : Listing → Target → ℕ → Type 0
+openedTable c t = first 7 ((isMatrix t ≡ true) × OtherThanXor c) (first 8 (BrokenTarget (c .inputs) (length (c .outs)) t) accepted)
+
 -- edits, report, limits and store: nothing open (13), and then as the state says
 abbrev pub whenOpen : Present → (State → ℕ → Type 0) → ℕ → Type 0
 whenOpen nothing rest n = n ≡ 13
@@ -119,6 +132,34 @@ distanceTable n ms ds t D =
     (first 2 (((length ms ≡ length ds → ⊥) ⊎ (length ms ≡ 0)) ⊎ (256 < length ms))
     (first 8 ((Some (λ (m : ℕ). 2 ^ n ≤ m) ms ⊎ (t ≡ 0)) ⊎ (2 ^ n ≤ t))
     (first 9 (Some (λ (d : ℕ). 16 ≤ d) ds ⊎ (15 < D)) accepted)))
+
+-- 15: p is the place of the first byte that no good text has there, and no name that ends at or before it is at fault
+abbrev pub BadTextAt : List ℕ → ℕ → Type 0
+BadTextAt s p = Place s p × ((a : ℕ) → wordEnd s a ≤ p → Fault s a → ⊥)
+
+-- 17: no input is read, or no output is set, or one is set and one below it is not
+abbrev pub NotWhole : List ℕ → List Assignment → Type 0
+NotWhole s l =
+    (inputsIn s l ≡ 0)
+    ⊎ ((j : ℕ) → setsOutput s l j ≡ false)
+    ⊎ ((j : ℕ) × (k : ℕ) × (j < k) × (setsOutput s l j ≡ false) × (setsOutput s l k ≡ true))
+
+-- 1: more than 248 operators, or more than 32 outputs: y32 is set, where with each output all below it are
+abbrev pub TooLarge : List ℕ → List Assignment → Type 0
+TooLarge s l = (248 < operatorsIn l) ⊎ (setsOutput s l 32 ≡ true)
+
+-- the reading of the text as a file has this
+abbrev pub OfReading : List ℕ → (List Assignment → Type 0) → Type 0
+OfReading s P = (l : List Assignment) × (File s l) × P l
+
+-- an equation file: bad text (15) or a name at fault (16), whichever is first, then 17, 1, 11
+abbrev pub equationsTable : List ℕ → ℕ → ℕ → Type 0
+equationsTable s room =
+    first 15 ((p : ℕ) × BadTextAt s p)
+    (first 16 ((q : ℕ) × NameFault s q)
+    (first 17 (OfReading s (NotWhole s))
+    (first 1 (OfReading s (TooLarge s))
+    (first 11 (room < length (drawnBytes s)) accepted))))
 
 -- the number of a call's answer: 0 where nothing is refused
 abbrev pub callNo : Present → Call → ℕ

@@ -1,9 +1,13 @@
 -- The answers of the calls as numbers, what the calls with such answers promise, and sequences of them.
+use mathlib.Core.Path.{_≡_}
 use mathlib.Core.Logic.{_⊎_}
 use mathlib.Core.List.{List}
 use Prim.Native.Nat.{ℕ}
+use lib.ListN.{length}
 use Rattle.circuit.specs.Rules.{refusalNo, answerNo}
 use Rattle.stored.specs.Writing.{writingCode}
+use Rattle.drawing.specs.declared.Drawn.{Drawn}
+use Rattle.drawing.specs.Drawing.{drawnNo, drawnPlace, drawnCount, drawnAnswer, drawnRoom}
 use Rattle.targets.specs.Target.{Target}
 use Rattle.bench.specs.declared.Bench.{Bench}
 use Rattle.bench.specs.declared.Edit.{Edit}
@@ -22,6 +26,7 @@ use Rattle.coded.specs.declared.Edited.{Edited as EditedNumbers}
 use Rattle.coded.specs.declared.EditNumbers.{EditNumbers}
 use Rattle.coded.specs.declared.ReportNumbers.{ReportNumbers}
 use Rattle.coded.specs.declared.VerdictNumbers.{VerdictNumbers}
+use Rattle.coded.specs.declared.ReadingNumbers.{ReadingNumbers}
 
 -- an edit's answer in numbers: 0 or the refusal's, the count, the lines
 abbrev pub editCode : Edit → EditNumbers
@@ -69,6 +74,10 @@ abbrev pub reportedCode : Reported → ReportNumbers
 reportedCode (Given r) = reportCode r
 reportedCode (NotGiven w) = refusedCode (refusalNo w)
 
+-- what reading an equation file answers, in numbers: 0 or the refusal's, the count, the place
+abbrev pub drawnCode : Drawn → ReadingNumbers
+drawnCode d = record { refusal = drawnNo d; count = drawnCount d; place = drawnPlace d }
+
 -- each answer as numbers; of storing: how many bytes, or 65,536 times the refusal's number
 abbrev pub asNumbers : View
 asNumbers =
@@ -112,6 +121,11 @@ ReportCodePromise = ReportGiven asNumbers
 -- of storing
 abbrev pub StoreCode : Bench → List ℕ → ℕ → List ℕ → Type 0
 StoreCode = StoreGiven asNumbers
+
+-- of reading an equation file, which needs no bench
+pub record EquationsCode (s room : List ℕ) (r : ReadingNumbers) (out : List ℕ) : Type 0 where
+  pub answer : r ≡ drawnCode (drawnAnswer s (length room))
+  pub bytes : out ≡ drawnRoom s room
 
 -- ---- a sequence of calls
 

@@ -3,7 +3,7 @@ ghost use mathlib.Core.Path.{_≡_};
 ghost use Rattle.circuit.specs.Rules.{answerNo};
 ghost use Rattle.targets.specs.Target.{matrix, table};
 ghost use Rattle.bench.specs.State.{limits};
-ghost use Rattle.coded.specs.Coded.{openCoded, editCoded, verdictCode, reportCode, refusedCode, OpenCode, GateCode, OutputCode, EntryCode, LimitsCode, ReportCodePromise, StoreCode};
+ghost use Rattle.coded.specs.Coded.{openCoded, editCoded, verdictCode, reportCode, refusedCode, drawnCode, OpenCode, GateCode, OutputCode, EntryCode, LimitsCode, ReportCodePromise, StoreCode, EquationsCode};
 use bench::Bench;
 use bench::Report;
 use bench::Reported;
@@ -14,6 +14,10 @@ use circuit::Answer;
 use circuit::LINES;
 use circuit::refusal_no;
 use circuit::wide;
+use drawing::BAD_NAME;
+use drawing::BAD_TEXT;
+use drawing::Drawn;
+use drawing::NO_OUTPUTS;
 
 // The bench after an open, and 0 or why it was refused.
 pub struct Opened {
@@ -236,4 +240,54 @@ pub fn store(bench: Bench, room: &mut [u8]) -> usize
 {
     let written = bench::storing::store(bench, room);
     stored::restore::writing_code(written)
+}
+
+// What reading an equation file answers: 0 or why it was refused, how many bytes stand first in the room, and where the text or
+// a name is bad, as the number of bytes before that place.
+#[repr(C)]
+pub struct ReadingNumbers {
+    pub refusal: usize,
+    pub count: usize,
+    pub place: usize,
+}
+
+// A reading's answer in numbers.
+fn drawn_numbers(drawn: Drawn) -> ReadingNumbers
+    ensures { λ r. ⌜ r ≡ drawnCode drawn ⌝ }
+{
+    match drawn {
+        Drawn::Stored(count) => ReadingNumbers {
+            refusal: 0,
+            count,
+            place: 0,
+        },
+        Drawn::BadText(place) => ReadingNumbers {
+            refusal: BAD_TEXT,
+            count: 0,
+            place,
+        },
+        Drawn::BadName(place) => ReadingNumbers {
+            refusal: BAD_NAME,
+            count: 0,
+            place,
+        },
+        Drawn::NoOutputs => ReadingNumbers {
+            refusal: NO_OUTPUTS,
+            count: 0,
+            place: 0,
+        },
+        Drawn::NotStored(why) => ReadingNumbers {
+            refusal: refusal_no(why),
+            count: 0,
+            place: 0,
+        },
+    }
+}
+
+// The stored circuit of an equation file first in the room.
+pub fn equations(text: &[u8], room: &mut [u8]) -> ReadingNumbers
+    ensures { λ r. ⌜ EquationsCode (now (text .entry)) (now (room .entry)) r (now (room .exit)) ⌝ }
+{
+    let drawn = drawing::equations(text, room);
+    drawn_numbers(drawn)
 }

@@ -5,9 +5,10 @@ ghost use Rattle.distance.specs.Query.{distanceCode, answerOf};
 ghost use Rattle.builder.specs.Call.{BuildsNumbered};
 ghost use Rattle.targets.specs.Target.{matrix, table};
 ghost use Rattle.bench.specs.State.{limits};
-ghost use Rattle.coded.specs.Coded.{OpenCode, GateCode, OutputCode, EntryCode, LimitsCode, ReportCodePromise, StoreCode};
+ghost use Rattle.coded.specs.Coded.{OpenCode, GateCode, OutputCode, EntryCode, LimitsCode, ReportCodePromise, StoreCode, EquationsCode};
 use bench::Bench;
 use coded::EditNumbers;
+use coded::ReadingNumbers;
 use coded::ReportNumbers;
 
 // Opens a circuit with a matrix for its target.
@@ -139,4 +140,13 @@ pub extern "C" fn allpawasi_distance(
     ensures { λ r. ⌜ r ≡ distanceCode (answerOf n (now (masks .entry)) (now (depths .entry)) target d) ⌝ }
 {
     distance::distance_no(n, masks, depths, target, d)
+}
+
+// Reads an equation file: how many bytes of its stored circuit stand first in the room, or the refusal's number and the place of
+// 15 and 16, and the room as it was.
+#[no_mangle]
+pub extern "C" fn allpawasi_equations(text: &[u8], room: &mut [u8]) -> ReadingNumbers
+    ensures { λ r. ⌜ EquationsCode (now (text .entry)) (now (room .entry)) r (now (room .exit)) ⌝ }
+{
+    coded::equations(text, room)
 }

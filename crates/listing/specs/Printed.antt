@@ -83,6 +83,10 @@ countsText n m g d =
 abbrev pub listingText : Listing → List ℕ
 listingText c = countsText (c .inputs) (length (c .outs)) (length (c .gates)) (depthOf c) ++ newLine ++ linesText c
 
+-- the line `unreadable`, of what is no call or no file
+abbrev pub unreadableText : List ℕ
+unreadableText = 117 ∷ 110 ∷ 114 ∷ 101 ∷ 97 ∷ 100 ∷ 97 ∷ 98 ∷ 108 ∷ 101 ∷ 10 ∷ []
+
 -- the word `refused`, and a space
 abbrev pub refusedName : List ℕ
 refusedName = 114 ∷ 101 ∷ 102 ∷ 117 ∷ 115 ∷ 101 ∷ 100 ∷ 32 ∷ []
@@ -90,6 +94,10 @@ refusedName = 114 ∷ 101 ∷ 102 ∷ 117 ∷ 115 ∷ 101 ∷ 100 ∷ 32 ∷ []
 -- `refused N`, with the refusal's number
 abbrev pub refusedText : Refusal → List ℕ
 refusedText w = labelled refusedName (refusalNo w) ++ newLine
+
+-- `refused N PLACE`, of a refusal that has a place; the line is not ended
+abbrev pub placedText : ℕ → ℕ → List ℕ
+placedText number place = labelled refusedName number ++ labelled (32 ∷ []) place
 
 -- the most that the counts take
 abbrev pub countsSize : ℕ
@@ -102,6 +110,10 @@ linesSize = 6000
 -- the most that a refusal takes
 abbrev pub refusedSize : ℕ
 refusedSize = 32
+
+-- the most that a refusal with its place takes
+abbrev pub placedSize : ℕ
+placedSize = 64
 
 -- the lines of the circuit that a struct stands for; a struct out of range has none
 unfoldable pub linesIn : Circuit → List ℕ

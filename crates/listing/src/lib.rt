@@ -6,7 +6,7 @@ ghost use Rattle.circuit.specs.Gate.{kindOf};
 ghost use Rattle.circuit.specs.Lines.{gate};
 ghost use Rattle.circuit.specs.Structs.{gateOf, outOf};
 ghost use Rattle.text.specs.Putting.{Put, PutFree};
-ghost use Rattle.listing.specs.Printed.{lineName, joined, turned, negated, formula, gateLine, outputLine, linesTo, countsText, refusedText, countsSize, linesSize, refusedSize, linesIn};
+ghost use Rattle.listing.specs.Printed.{lineName, joined, turned, negated, formula, gateLine, outputLine, linesTo, countsText, refusedText, placedText, countsSize, linesSize, refusedSize, placedSize, linesIn};
 use circuit::Circuit;
 use circuit::Refusal;
 use circuit::line_index;
@@ -216,4 +216,16 @@ pub fn put_refused(room: &mut [u8], why: Refusal) -> usize
     }
     let next = put_labelled(room, 0, b"refused ", refusal_no(why));
     text::put(room, next, b"\n")
+}
+
+// `refused`, the number of a refusal and its place at the start of the room, or nothing where it is shorter than 64 bytes. The line is
+// not ended, since the program that reads a file has more to say there.
+pub fn put_placed(room: &mut [u8], number: usize, place: usize) -> usize
+    ensures { λ r. ⌜ PutFree (now (room .entry)) 0 placedSize (placedText number place) (now (room .exit)) r ⌝ }
+{
+    if !is_free(room.len(), 0, 64) {
+        return 0;
+    }
+    let next = put_labelled(room, 0, b"refused ", number);
+    put_labelled(room, next, b" ", place)
 }

@@ -4,7 +4,7 @@ use mathlib.Core.List.{List, [], _∷_, map}
 use Prim.Native.Nat.{ℕ}
 use Rattle.text.specs.Places.{leading, headWord, tailWords, sameList}
 use Rattle.text.specs.Numbers.{numFrom, allHex, hexBytes}
-use Rattle.script.specs.Order.{Order, silent, unreadable, askOpenTable, askGate, askLimits, askStore, askBuild, askDistance}
+use Rattle.script.specs.Order.{Order, silent, unreadable, askOpenTable, askGate, askLimits, askStore, askBuild, askDistance, askEquations}
 use Rattle.script.specs.Reading.{number, limit, isPairs, hex, kind, noMore, byWord, orderIn}
 
 -- lines, and what each asks
@@ -34,6 +34,12 @@ examples =
     (98 ∷ 117 ∷ 105 ∷ 108 ∷ 100 ∷ 32 ∷ 51 ∷ 32 ∷ 48 ∷ 51 ∷ 48 ∷ 32 ∷ 50 ∷ 32 ∷ 54 ∷ 52 ∷ [], unreadable) ∷
     -- distance 4 01 - 15 3
     (100 ∷ 105 ∷ 115 ∷ 116 ∷ 97 ∷ 110 ∷ 99 ∷ 101 ∷ 32 ∷ 52 ∷ 32 ∷ 48 ∷ 49 ∷ 32 ∷ 45 ∷ 32 ∷ 49 ∷ 53 ∷ 32 ∷ 51 ∷ [], askDistance 4 (1 ∷ []) [] 15 3) ∷
+    -- equations 79303d7830 100
+    (101 ∷ 113 ∷ 117 ∷ 97 ∷ 116 ∷ 105 ∷ 111 ∷ 110 ∷ 115 ∷ 32 ∷ 55 ∷ 57 ∷ 51 ∷ 48 ∷ 51 ∷ 100 ∷ 55 ∷ 56 ∷ 51 ∷ 48 ∷ 32 ∷ 49 ∷ 48 ∷ 48 ∷ [], askEquations (121 ∷ 48 ∷ 61 ∷ 120 ∷ 48 ∷ []) 100) ∷
+    -- equations - 0
+    (101 ∷ 113 ∷ 117 ∷ 97 ∷ 116 ∷ 105 ∷ 111 ∷ 110 ∷ 115 ∷ 32 ∷ 45 ∷ 32 ∷ 48 ∷ [], askEquations [] 0) ∷
+    -- equations 79303d7830
+    (101 ∷ 113 ∷ 117 ∷ 97 ∷ 116 ∷ 105 ∷ 111 ∷ 110 ∷ 115 ∷ 32 ∷ 55 ∷ 57 ∷ 51 ∷ 48 ∷ 51 ∷ 100 ∷ 55 ∷ 56 ∷ 51 ∷ 48 ∷ [], unreadable) ∷
     -- # gate 0 3 0 1
     (35 ∷ 32 ∷ 103 ∷ 97 ∷ 116 ∷ 101 ∷ 32 ∷ 48 ∷ 32 ∷ 51 ∷ 32 ∷ 48 ∷ 32 ∷ 49 ∷ [], silent) ∷
     -- two spaces

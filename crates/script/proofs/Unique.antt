@@ -7,8 +7,8 @@ use lib.ListN.{length, drop, length-drop, length-take}
 use Rattle.text.proofs.Numbers.{bytes-length}
 use Rattle.script.specs.declared.Part.{Part}
 use Rattle.script.specs.declared.Call.{Call}
-use Rattle.script.specs.declared.Call.the-variants.{Silent, Unreadable, New, OpenMatrix, OpenTable, Report, Gate, Output, Entry, Limits, Store, Held, Show, Build, Distance}
-use Rattle.script.specs.Order.{Order, silent, unreadable, askNew, askOpenMatrix, askOpenTable, askReport, askGate, askOutput, askEntry, askLimits, askStore, askHeld, askShow, askBuild, askDistance, digitsOf, bytesOf, orderOf}
+use Rattle.script.specs.declared.Call.the-variants.{Silent, Unreadable, New, OpenMatrix, OpenTable, Report, Gate, Output, Entry, Limits, Store, Held, Show, Build, Distance, Equations}
+use Rattle.script.specs.Order.{Order, silent, unreadable, askNew, askOpenMatrix, askOpenTable, askReport, askGate, askOutput, askEntry, askLimits, askStore, askHeld, askShow, askBuild, askDistance, askEquations, digitsOf, bytesOf, orderOf}
 use Rattle.script.specs.Placed.{HexPart, Placed, afterWords, Follows, Means}
 
 -- the part that says some bytes just before the rest of the line after k words
@@ -44,6 +44,7 @@ callFor line askHeld = Held
 callFor line askShow = Show
 callFor line (askBuild n rows d room) = Build (record { n = n; rows = partFor line 3 rows; d = d; room = room })
 callFor line (askDistance n masks depths t d) = Distance (record { n = n; masks = partFor line 3 masks; depths = partFor line 4 depths; target = t; d = d })
+callFor line (askEquations file room) = Equations (record { file = partFor line 2 file; room = room })
 
 call-is : (line : List ℕ) (r : Call) → Placed line r → Follows line r → r ≡ callFor line (orderOf line r)
 call-is line Silent p f = refl
@@ -67,6 +68,7 @@ call-is line (Build b) p f = let rows = part-is 3 p f in λ i. Build (record { n
 call-is line (Distance d) p f =
     let masks = part-is 3 (p .first) (f .0) in let depths = part-is 4 (p .second) (f .1) in
     λ i. Distance (record { n = d .n; masks = masks i; depths = depths i; target = d .target; d = d .d })
+call-is line (Equations q) p f = let file = part-is 2 p f in λ i. Equations (record { file = file i; room = q .room })
 
 -- two results that meet the promise of `call_in` are equal
 pub call-unique : {line : List ℕ} {r s : Call} {o : Order} → Means line r o → Means line s o → r ≡ s

@@ -8,7 +8,7 @@ use Rattle.text.specs.Places.{tailWords}
 use Rattle.text.specs.Numbers.{allHex}
 use Rattle.script.specs.declared.Part.{Part}
 use Rattle.script.specs.declared.Call.{Call}
-use Rattle.script.specs.declared.Call.the-variants.{Silent, Unreadable, New, OpenMatrix, OpenTable, Report, Gate, Output, Entry, Limits, Store, Held, Show, Build, Distance}
+use Rattle.script.specs.declared.Call.the-variants.{Silent, Unreadable, New, OpenMatrix, OpenTable, Report, Gate, Output, Entry, Limits, Store, Held, Show, Build, Distance, Equations}
 use Rattle.script.specs.Order.{Order, digitsOf, orderOf}
 
 -- a part of pairs of hexadecimal digits, within a line that is not too long
@@ -42,6 +42,7 @@ Placed line Held = Unit
 Placed line Show = Unit
 Placed line (Build b) = HexPart line (b .rows)
 Placed line (Distance d) = HexParts line (d .masks) (d .depths)
+Placed line (Equations q) = HexPart line (q .file)
 
 -- what follows the first k words of a line
 abbrev pub afterWords : ℕ → List ℕ → List ℕ
@@ -65,6 +66,7 @@ Follows line Held = Unit
 Follows line Show = Unit
 Follows line (Build b) = drop (b .rows .to) line ≡ afterWords 3 line
 Follows line (Distance d) = (drop (d .masks .to) line ≡ afterWords 3 line) × (drop (d .depths .to) line ≡ afterWords 4 line)
+Follows line (Equations q) = drop (q .file .to) line ≡ afterWords 2 line
 
 -- a call means an order over its line, and its parts stand where they should
 pub record Means (line : List ℕ) (r : Call) (o : Order) : Type 0 where

@@ -8,7 +8,7 @@ use Rattle.text.specs.declared.Number.{Number}
 use Rattle.text.specs.declared.Number.the-variants.{Value, Not}
 use Rattle.text.specs.Places.{headWord, tailWords, sameList}
 use Rattle.text.specs.Numbers.{numberIn, allHex, hexBytes}
-use Rattle.script.specs.Order.{Order, silent, unreadable, askNew, askOpenMatrix, askOpenTable, askReport, askGate, askOutput, askEntry, askLimits, askStore, askHeld, askShow, askBuild, askDistance}
+use Rattle.script.specs.Order.{Order, silent, unreadable, askNew, askOpenMatrix, askOpenTable, askReport, askGate, askOutput, askEntry, askLimits, askStore, askHeld, askShow, askBuild, askDistance, askEquations}
 
 -- what the rest of a line asks
 abbrev pub Rest : Type 0
@@ -93,6 +93,10 @@ buildRest = number (λ n. hex (λ rows. number (λ d. number (λ room. noMore (a
 abbrev pub distanceRest : Rest
 distanceRest = number (λ n. hex (λ masks. hex (λ depths. number (λ t. number (λ d. noMore (askDistance n masks depths t d))))))
 
+-- `equations HEX ROOM`
+abbrev pub equationsRest : Rest
+equationsRest = hex (λ file. number (λ room. noMore (askEquations file room)))
+
 -- the word `new`
 abbrev pub newWord : List ℕ
 newWord = 110 ∷ 101 ∷ 119 ∷ []
@@ -141,6 +145,10 @@ buildWord = 98 ∷ 117 ∷ 105 ∷ 108 ∷ 100 ∷ []
 abbrev pub distanceWord : List ℕ
 distanceWord = 100 ∷ 105 ∷ 115 ∷ 116 ∷ 97 ∷ 110 ∷ 99 ∷ 101 ∷ []
 
+-- the word `equations`
+abbrev pub equationsWord : List ℕ
+equationsWord = 101 ∷ 113 ∷ 117 ∷ 97 ∷ 116 ∷ 105 ∷ 111 ∷ 110 ∷ 115 ∷ []
+
 -- a table of calls: each word, and what the rest of the line asks after it
 abbrev pub Table : Type 0
 Table = List (List ℕ × Rest)
@@ -152,7 +160,8 @@ byWord (row ∷ rows) w s = cond (sameList w (row .0)) (row .1 s) (byWord rows w
 
 -- calls that bring or take bytes
 abbrev pub bytesCalls : Table
-bytesCalls = (openWord, openRest) ∷ (storeWord, storeRest) ∷ (buildWord, buildRest) ∷ (distanceWord, distanceRest) ∷ []
+bytesCalls =
+    (openWord, openRest) ∷ (storeWord, storeRest) ∷ (buildWord, buildRest) ∷ (distanceWord, distanceRest) ∷ (equationsWord, equationsRest) ∷ []
 
 -- those, and edits
 abbrev pub editCalls : Table

@@ -3,6 +3,7 @@ use crate::BuildCall;
 use crate::Call;
 use crate::DistanceCall;
 use crate::EntryEdit;
+use crate::EquationsCall;
 use crate::GateEdit;
 use crate::LimitsEdit;
 use crate::Opening;
@@ -16,7 +17,7 @@ use crate::words::number_at;
 ghost use mathlib.Core.Path.{_≡_};
 ghost use mathlib.Core.Bool.{Bool};
 ghost use Rattle.script.specs.Order.{orderOf};
-ghost use Rattle.script.specs.Reading.{openRest, gateRest, outputRest, entryRest, limitsRest, storeRest, buildRest, distanceRest, noMore};
+ghost use Rattle.script.specs.Reading.{openRest, gateRest, outputRest, entryRest, limitsRest, storeRest, buildRest, distanceRest, equationsRest, noMore};
 ghost use Rattle.script.specs.Placed.{Placed, Follows, Means};
 ghost use Rattle.script.specs.Cursors.{onward, Within, Second};
 
@@ -167,4 +168,19 @@ pub(crate) fn read_distance(line: &[u8], here: Cursor) -> Call
         d: d.value,
     };
     finish(line, d.rest, Call::Distance(call))
+}
+
+// `equations HEX ROOM`.
+pub(crate) fn read_equations(line: &[u8], here: Cursor) -> Call
+    requires { ⌜ Second (now line) here ⌝ }
+    ensures { λ r. ⌜ Means (now (line .entry)) r (onward (now (line .entry)) here equationsRest) ⌝ }
+{
+    let bytes = hex_at(line, here);
+    let room = number_at(line, bytes.rest);
+    let file = bytes.part;
+    let call = EquationsCall {
+        file,
+        room: room.value,
+    };
+    finish(line, room.rest, Call::Equations(call))
 }

@@ -66,6 +66,12 @@ pub struct DistanceCall {
     pub d: usize,
 }
 
+// `equations HEX ROOM`.
+pub struct EquationsCall {
+    pub file: Part,
+    pub room: usize,
+}
+
 // What a line calls for. A blank line or a note is Silent, a line that is no call Unreadable.
 pub enum Call {
     Silent,
@@ -83,6 +89,7 @@ pub enum Call {
     Show,
     Build(BuildCall),
     Distance(DistanceCall),
+    Equations(EquationsCall),
 }
 
 // A line of more bytes than this is unreadable.
@@ -104,6 +111,9 @@ fn bytes_call(word: &[u8], line: &[u8], rest: Cursor) -> Call
     }
     if text::same(word, b"distance") {
         return calls::read_distance(line, rest);
+    }
+    if text::same(word, b"equations") {
+        return calls::read_equations(line, rest);
     }
     Call::Unreadable
 }

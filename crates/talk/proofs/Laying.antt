@@ -1,4 +1,4 @@
--- Two words of one line as bytes, one after the other in a room. Assumes nothing.
+-- Words of one line as bytes in a room: one alone, or two one after the other. Assumes nothing.
 use mathlib.Core.Path.{_≡_, ap, _∙_}
 use mathlib.Core.List.{List, _++_, append-assoc}
 use Prim.Native.Nat.{ℕ, _+_, _-_, _/_, _≤_}
@@ -12,7 +12,8 @@ use Rattle.text.proofs.Putting.{put-then, put-as, put-free, counted}
 use Rattle.script.specs.declared.Part.{Part}
 use Rattle.script.specs.Order.{digitsOf, bytesOf}
 use Rattle.script.specs.Placed.{HexPart}
-use Rattle.talk.specs.Saying.{Laid}
+use Rattle.talk.specs.Saying.{Laid, LaidFirst}
+use Rattle.talk.proofs.Spoken.{said, first-bytes}
 
 -- how many digits a part has
 pub digits-long : (line : List ℕ) (p : Part) → HexPart line p → length (digitsOf line p) ≡ p .to - p .from
@@ -26,6 +27,10 @@ bytes-long line p h = bytes-length (digitsOf line p) ∙ ap (λ (n : ℕ). n / 2
 pub bytes-put : (line : List ℕ) (p : Part) {before after : List ℕ} {at r : ℕ} → HexPart line p → at + (p .to - p .from) / 2 ≤ length before
     → PutFree before at (length (digitsOf line p) / 2) (bytesSaid (digitsOf line p)) after r → Put before at (bytesOf line p) after r
 bytes-put line p h l u = put-as (bytes-said (digitsOf line p) (h .digits)) (put-free (omega (arith, digits-long line p h)) u)
+
+-- one stands first
+pub laid-first : (line : List ℕ) (p : Part) {before after : List ℕ} {end : ℕ} → Put before 0 (bytesOf line p) after end → end ≤ length after → LaidFirst line after p end
+laid-first line p h l = let s = said l h in record { counts = s .counts; bytes = first-bytes s }
 
 -- the second is put after the first
 pub laid : (line : List ℕ) (p q : Part) {before between after : List ℕ} {mid end : ℕ} → Put before 0 (bytesOf line p) between mid

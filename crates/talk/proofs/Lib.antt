@@ -6,6 +6,7 @@ pub mod Holding
 pub mod Showing
 pub mod Storing
 pub mod Building
+pub mod Files
 pub mod Laying
 pub mod Unique
 pub mod Examples

@@ -20,8 +20,8 @@ use Rattle.text.specs.declared.Number.the-variants.{Value, Not}
 use Rattle.text.specs.Places.{headWord, tailWords, sameList}
 use Rattle.text.specs.Numbers.{numberIn, hexBytes}
 use Rattle.text.proofs.Putting.{counted}
-use Rattle.script.specs.Order.{Order, silent, unreadable, askNew, askReport, askGate, askOutput, askEntry, askLimits, askStore, askHeld, askShow, askBuild, askDistance}
-use Rattle.script.specs.Reading.{Rest, onValue, number, limit, isHex, hex, matrixWord, tableWord, kind, noMore, Table, byWord, askOpen, openRest, gateRest, outputRest, entryRest, buildRest, distanceRest, bytesCalls, editCalls, calls, orderIn}
+use Rattle.script.specs.Order.{Order, silent, unreadable, askNew, askReport, askGate, askOutput, askEntry, askLimits, askStore, askHeld, askShow, askBuild, askDistance, askEquations}
+use Rattle.script.specs.Reading.{Rest, onValue, number, limit, isHex, hex, matrixWord, tableWord, kind, noMore, Table, byWord, askOpen, openRest, gateRest, outputRest, entryRest, buildRest, distanceRest, equationsRest, bytesCalls, editCalls, calls, orderIn}
 use Rattle.talk.specs.declared.Told.{Told}
 use Rattle.talk.specs.Talk.{Deed, clearing, calling, deedOf, presentBy, presentAfterLine, presentAfterLines, textOf, written, Answers}
 
@@ -108,7 +108,7 @@ open-fits : (t : Bool) (bytes target : List ℕ) (g d a : ℕ) → LimitsFit (li
 open-fits true bytes target g d a h = (h, tt)
 open-fits false bytes target g d a h = (h, tt)
 
--- `open`, `build` and `distance`
+-- `open`, `build`, `distance` and `equations`
 good-open : Good openRest
 good-open = good-hex _ (λ bytes. good-kind _ (λ t. good-hex _ (λ target. three (askOpen t bytes target) (open-fits t bytes target))))
 
@@ -118,6 +118,9 @@ good-build = good-number _ (λ n. good-hex _ (λ rows. good-number _ (λ d. good
 good-distance : Good distanceRest
 good-distance =
     good-number _ (λ n. good-hex _ (λ masks. good-hex _ (λ depths. good-number _ (λ t. good-number _ (λ d. good-end (askDistance n masks depths t d) tt)))))
+
+good-equations : Good equationsRest
+good-equations = good-hex _ (λ file. good-number _ (λ room. good-end (askEquations file room) tt))
 
 -- `gate`, `output` and `entry`
 good-gate : Good gateRest
@@ -131,7 +134,7 @@ good-entry = good-number _ (λ i. good-number _ (λ value. good-end (askEntry i 
 
 -- all calls
 good-bytes : GoodRows bytesCalls
-good-bytes = (good-open, (good-number _ (λ room. good-end (askStore room) (tt, tt)), (good-build, (good-distance, tt))))
+good-bytes = (good-open, (good-number _ (λ room. good-end (askStore room) (tt, tt)), (good-build, (good-distance, (good-equations, tt)))))
 
 good-edits : GoodRows editCalls
 good-edits = (good-gate, (good-output, (good-entry, (three askLimits (λ g d a h. (h, tt)), good-bytes))))

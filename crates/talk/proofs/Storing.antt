@@ -7,7 +7,7 @@ use native.Mathlib.Omega.{arith}
 use native.Mathlib.Decide.{decLt}
 use borrow.Author.Tests.{le-leb, lt-leb}
 use lib.Dec.{leb}
-use lib.ListN.{length, take, drop, length-append}
+use lib.ListN.{length, take, drop, length-take, length-append}
 use lib.Seq.{take-at}
 use Rattle.circuit.specs.declared.Refusal.{Refusal}
 use Rattle.circuit.specs.declared.Refusal.the-variants.{NoRoom}
@@ -40,14 +40,21 @@ stored-short c s =
 abbrev pub Sized : Writing → ℕ → Type 0
 Sized a size = (k : ℕ) → a ≡ Written k → (k ≡ size) × (size ≤ storedMost)
 
+-- a lent part of a room is as long as it was asked for
+pub lent-long : (wanted : ℕ) {lent : ℕ} (room : List ℕ) → lent ≡ min wanted storedMost → storedMost ≤ length room → length (take lent room) ≡ lent
+lent-long wanted {lent} room e h = omega (arith, e, h, length-take lent room)
+
+-- bytes that stand first in a room, no more than are looked at
+pub first-stored : (k : ℕ) (bytes room rest : List ℕ) → (k ≡ length bytes) × (length bytes ≤ storedMost)
+    → take (min k storedMost) ((bytes ++ drop (length bytes) room) ++ rest) ≡ bytes
+first-stored k bytes room rest e =
+    let m : length bytes ≡ min k storedMost = omega (arith, e .0, e .1) in
+    ap (take (min k storedMost)) (append-assoc bytes (drop (length bytes) room) rest) ∙ take-at bytes (drop (length bytes) room ++ rest) (min k storedMost) m
+
 -- the bytes stand first in the room and are said
 written-said : (name : List ℕ) (a : Writing) (bytes room rest : List ℕ) → Sized a (length bytes)
     → writtenIn name a (roomAfter a bytes room ++ rest) ≡ writtenText name a bytes
-written-said name (Written k) bytes room rest f =
-    let e = f k refl in
-    let m : length bytes ≡ min k storedMost = omega (arith, e .0, e .1) in
-    ap (hexLine name k)
-    (ap (take (min k storedMost)) (append-assoc bytes (drop (length bytes) room) rest) ∙ take-at bytes (drop (length bytes) room ++ rest) (min k storedMost) m)
+written-said name (Written k) bytes room rest f = ap (hexLine name k) (first-stored k bytes room rest (f k refl))
 written-said name (NotWritten w) bytes room rest f = refl
 
 -- the same where a shorter room was lent, to the same effect

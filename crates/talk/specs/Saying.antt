@@ -13,6 +13,8 @@ use Rattle.stored.specs.declared.Writing.{Writing}
 use Rattle.stored.specs.declared.Writing.the-variants.{Written, NotWritten}
 use Rattle.stored.specs.Stored.{stored}
 use Rattle.builder.specs.Call.{built, buildAnswer}
+use Rattle.drawing.specs.declared.Drawn.{Drawn}
+use Rattle.drawing.specs.Drawing.{drawnCount, drawnAnswer, drawnBytes}
 use Rattle.bench.specs.declared.Bench.{Bench}
 use Rattle.bench.specs.declared.Report.{Report}
 use Rattle.bench.specs.declared.Reported.{Reported}
@@ -27,7 +29,7 @@ use Rattle.listing.specs.Printed.{newLine, refusedText, countsText, linesIn, li
 use Rattle.script.specs.declared.Part.{Part}
 use Rattle.script.specs.Order.{bytesOf}
 use Rattle.talk.specs.Words.{andDepthName, heldName}
-use Rattle.talk.specs.Texts.{verdictText, hexLine, writtenText, groupText, valuesText}
+use Rattle.talk.specs.Texts.{verdictText, hexLine, writtenText, drawnText, groupText, valuesText}
 
 -- a text was put first in a room, within it: `len` bytes, and past them the room is as it was
 pub record Said (before after : List ℕ) (len : ℕ) (text : List ℕ) : Type 0 where
@@ -42,6 +44,10 @@ storedMost = 2048
 abbrev pub writtenIn : List ℕ → Writing → List ℕ → List ℕ
 writtenIn name (Written count) room = hexLine name count (take (min count storedMost) room)
 writtenIn name (NotWritten w) room = refusedText w
+
+-- what was read of a file and stands first in a room, or why nothing was
+abbrev pub drawnIn : Drawn → List ℕ → List ℕ
+drawnIn d room = drawnText d (take (min (drawnCount d) storedMost) room)
 
 -- how many bytes hold a value for each input value there may be
 abbrev pub packedMost : ℕ
@@ -78,6 +84,11 @@ pub record Laid (line room : List ℕ) (p q : Part) (mid end : ℕ) : Type 0 whe
   pub first : take mid room ≡ bytesOf line p
   pub second : take (end - mid) (drop mid room) ≡ bytesOf line q
 
+-- the bytes of one part stand first in a room, `end` of them
+pub record LaidFirst (line room : List ℕ) (p : Part) (end : ℕ) : Type 0 where
+  pub counts : Counts end room
+  pub bytes : take end room ≡ bytesOf line p
+
 -- as many bytes as the words of one line can say
 abbrev pub hexMost : ℕ
 hexMost = 32768
@@ -89,3 +100,7 @@ pub record StoresFirst (b : Bench) (size : ℕ) (r : Writing) (room : List ℕ) 
 -- what was built for a room so long stands first in a room, or the refusal is told
 pub record BuildsFirst (n : ℕ) (ts : List ℕ) (D size : ℕ) (r : Writing) (room : List ℕ) : Type 0 where
   pub said : (name : List ℕ) → writtenIn name r room ≡ writtenText name (buildAnswer n ts D size) (stored (built n ts D))
+
+-- what was read of a file for a room so long stands first in a room, or the refusal is told
+pub record DrawsFirst (s : List ℕ) (size : ℕ) (r : Drawn) (room : List ℕ) : Type 0 where
+  pub said : drawnIn r room ≡ drawnText (drawnAnswer s size) (drawnBytes s)

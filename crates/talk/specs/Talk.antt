@@ -7,6 +7,7 @@ use Rattle.io.specs.Counts.{Counts}
 use Rattle.stored.specs.Stored.{stored}
 use Rattle.distance.specs.Query.{answerOf}
 use Rattle.builder.specs.Call.{built, buildAnswer}
+use Rattle.drawing.specs.Drawing.{drawnAnswer, drawnBytes}
 use Rattle.targets.specs.Target.{matrix, table}
 use Rattle.bench.specs.declared.Bench.{Bench}
 use Rattle.bench.specs.State.{Present, nothing, limits}
@@ -14,11 +15,12 @@ use Rattle.bench.specs.Held.{benchOf, Stands}
 use Rattle.bench.specs.Calls.{openAnswer, gateEdit, outputEditAnswer, entryEditAnswer, limitsAnswer, noRework, reported, storeAnswer, storedOf}
 use Rattle.bench.specs.Run.{Call, presentFrom}
 use Rattle.bench.specs.Run.Call.{opening, replacing, pointing, changing, limiting, reporting, storing}
-use Rattle.script.specs.Order.{Order, silent, unreadable, askNew, askOpenMatrix, askOpenTable, askReport, askGate, askOutput, askEntry, askLimits, askStore, askHeld, askShow, askBuild, askDistance}
+use Rattle.listing.specs.Printed.{unreadableText}
+use Rattle.script.specs.Order.{Order, silent, unreadable, askNew, askOpenMatrix, askOpenTable, askReport, askGate, askOutput, askEntry, askLimits, askStore, askHeld, askShow, askBuild, askDistance, askEquations}
 use Rattle.script.specs.Reading.{orderIn}
 use Rattle.talk.specs.declared.Told.{Told}
-use Rattle.talk.specs.Words.{newText, unreadableText, storedName, builtName}
-use Rattle.talk.specs.Texts.{openText, editText, reportedText, writtenText, distanceText, heldText, showText}
+use Rattle.talk.specs.Words.{newText, storedName, builtName}
+use Rattle.talk.specs.Texts.{openText, editText, reportedText, writtenText, drawnText, distanceText, heldText, showText}
 
 -- what a line does to the bench: it clears it, or makes calls on it
 pub data Deed : Type 0 where
@@ -43,6 +45,7 @@ deedOf askHeld = calling []
 deedOf askShow = calling []
 deedOf (askBuild n rows d room) = calling []
 deedOf (askDistance n masks depths t d) = calling []
+deedOf (askEquations file room) = calling []
 
 -- what is present after a deed
 abbrev pub presentBy : Present → Deed → Present
@@ -70,6 +73,7 @@ textOf p askHeld = heldText p
 textOf p askShow = showText p
 textOf p (askBuild n rows d room) = writtenText builtName (buildAnswer n rows d room) (stored (built n rows d))
 textOf p (askDistance n masks depths t d) = distanceText (answerOf n masks depths t d)
+textOf p (askEquations file room) = drawnText (drawnAnswer file room) (drawnBytes file)
 
 -- what is present after some lines, one after the other
 abbrev pub presentAfterLines : Present → List (List ℕ) → Present

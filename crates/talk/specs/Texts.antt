@@ -12,6 +12,8 @@ use Rattle.stored.specs.declared.Writing.the-variants.{Written, NotWritten}
 use Rattle.distance.specs.declared.Answer.{Answer as Distance}
 use Rattle.distance.specs.declared.Answer.the-variants.{Gates, Never, Refused as NotAsked}
 use Rattle.distance.specs.Query.{queryRefusalNo}
+use Rattle.drawing.specs.declared.Drawn.{Drawn}
+use Rattle.drawing.specs.declared.Drawn.the-variants.{Stored, BadText, BadName, NoOutputs, NotStored}
 use Rattle.targets.specs.Wanted.{packed}
 use Rattle.bench.specs.declared.Verdict.{Verdict}
 use Rattle.bench.specs.declared.Verdict.the-variants.{Wrong, OverGates, OverDepth, OverAndDepth, Pass}
@@ -21,8 +23,8 @@ use Rattle.bench.specs.declared.Reported.the-variants.{Given, NotGiven}
 use Rattle.bench.specs.declared.Edit.{Edit}
 use Rattle.bench.specs.State.{State, Present, nothing, present, verdictOf}
 use Rattle.text.specs.Numbers.{hexText, labelled, numbered, numbersText}
-use Rattle.listing.specs.Printed.{newLine, refusedName, refusedText, countsText, linesText, linesTo}
-use Rattle.talk.specs.Words.{openedText, reportName, xorName, nonlinearName, notName, depthName, andDepthName, passName, wrongName, overGatesName, overDepthName, overAndDepthName, reworkedName, heldName, distanceName, noneName}
+use Rattle.listing.specs.Printed.{newLine, refusedName, refusedText, placedText, countsText, linesText, linesTo}
+use Rattle.talk.specs.Words.{openedText, reportName, xorName, nonlinearName, notName, depthName, andDepthName, passName, wrongName, overGatesName, overDepthName, overAndDepthName, reworkedName, readName, heldName, distanceName, noneName}
 
 -- VERDICT
 abbrev pub verdictText : Verdict → List ℕ
@@ -64,7 +66,7 @@ reworkedText count lines = labelled reworkedName count ++ numbersText (take coun
 abbrev pub editText : Edit → List ℕ
 editText e = acceptedText (e .answer) (reworkedText (e .count) (e .lines))
 
--- `stored COUNT HEX` and `built COUNT HEX`, by the first word
+-- `stored COUNT HEX`, `built COUNT HEX` and `read COUNT HEX`, by the first word
 unfoldable pub hexLine : List ℕ → ℕ → List ℕ → List ℕ
 hexLine name count bytes = labelled name count ++ (32 ∷ []) ++ hexText bytes ++ newLine
 
@@ -72,6 +74,14 @@ hexLine name count bytes = labelled name count ++ (32 ∷ []) ++ hexText bytes +
 abbrev pub writtenText : List ℕ → Writing → List ℕ → List ℕ
 writtenText name (Written count) bytes = hexLine name count bytes
 writtenText name (NotWritten w) bytes = refusedText w
+
+-- `read COUNT HEX`, of a file whose circuit has these stored bytes; `refused 15 PLACE`, `refused 16 PLACE` or `refused N`
+abbrev pub drawnText : Drawn → List ℕ → List ℕ
+drawnText (Stored count) bytes = hexLine readName count bytes
+drawnText (BadText place) bytes = placedText 15 place ++ newLine
+drawnText (BadName place) bytes = placedText 16 place ++ newLine
+drawnText NoOutputs bytes = labelled refusedName 17 ++ newLine
+drawnText (NotStored w) bytes = refusedText w
 
 -- `distance X`, `distance none` or `refused N`
 abbrev pub distanceText : Distance → List ℕ

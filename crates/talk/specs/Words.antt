@@ -10,10 +10,6 @@ newText = 110 ∷ 101 ∷ 119 ∷ 10 ∷ []
 abbrev pub openedText : List ℕ
 openedText = 111 ∷ 112 ∷ 101 ∷ 110 ∷ 101 ∷ 100 ∷ 10 ∷ []
 
--- the line `unreadable`
-abbrev pub unreadableText : List ℕ
-unreadableText = 117 ∷ 110 ∷ 114 ∷ 101 ∷ 97 ∷ 100 ∷ 97 ∷ 98 ∷ 108 ∷ 101 ∷ 10 ∷ []
-
 -- `report gates `
 abbrev pub reportName : List ℕ
 reportName = 114 ∷ 101 ∷ 112 ∷ 111 ∷ 114 ∷ 116 ∷ 32 ∷ 103 ∷ 97 ∷ 116 ∷ 101 ∷ 115 ∷ 32 ∷ []
@@ -69,6 +65,10 @@ storedName = 115 ∷ 116 ∷ 111 ∷ 114 ∷ 101 ∷ 100 ∷ 32 ∷ []
 -- `built `
 abbrev pub builtName : List ℕ
 builtName = 98 ∷ 117 ∷ 105 ∷ 108 ∷ 116 ∷ 32 ∷ []
+
+-- `read `
+abbrev pub readName : List ℕ
+readName = 114 ∷ 101 ∷ 97 ∷ 100 ∷ 32 ∷ []
 
 -- `held `
 abbrev pub heldName : List ℕ

@@ -7,11 +7,11 @@ ghost use Rattle.targets.specs.Target.{targetOf};
 ghost use Rattle.bench.specs.Calls.{OpenPromise};
 ghost use Rattle.bench.specs.State.{limits};
 ghost use Rattle.script.specs.Reading.{askOpen};
-ghost use Rattle.script.specs.Order.{bytesOf, unreadable, askNew, askReport, askGate, askOutput, askEntry, askLimits, askStore, askHeld, askShow, askBuild, askDistance};
+ghost use Rattle.script.specs.Order.{bytesOf, unreadable, askNew, askReport, askGate, askOutput, askEntry, askLimits, askStore, askHeld, askShow, askBuild, askDistance, askEquations};
 ghost use Rattle.script.specs.Placed.{HexPart, HexParts};
 ghost use Rattle.talk.specs.Texts.{editText, openText};
 ghost use Rattle.talk.specs.Talk.{Answers};
-ghost use Rattle.talk.specs.Saying.{Said, Laid, StoresFirst, BuildsFirst, storedMost, hexMost};
+ghost use Rattle.talk.specs.Saying.{Said, LaidFirst, Laid, StoresFirst, BuildsFirst, DrawsFirst, storedMost, hexMost};
 use crate::HEX;
 use crate::OUT;
 use crate::STORED;
@@ -19,6 +19,7 @@ use crate::Told;
 use crate::held::say_held;
 use crate::lines::say;
 use crate::lines::say_distance;
+use crate::lines::say_drawn;
 use crate::lines::say_edit;
 use crate::lines::say_opened;
 use crate::lines::say_reported;
@@ -37,10 +38,12 @@ use bench::opening::open_table;
 use bench::storing::circuit_of;
 use bench::storing::store;
 use builder::build;
+use drawing::Drawn;
 use report::report;
 use script::BuildCall;
 use script::DistanceCall;
 use script::EntryEdit;
+use script::EquationsCall;
 use script::GateEdit;
 use script::LimitsEdit;
 use script::Opening;
@@ -195,16 +198,24 @@ pub(crate) fn tell_store(b: Bench, size: usize, out: &mut [u8; OUT]) -> Told
     Told { bench: b, len }
 }
 
+// The bytes that a part of a line says, from the start of the room.
+fn lay_one(line: &[u8], p: Part, room: &mut [u8]) -> usize
+    requires { ⌜ HexPart (now line) p × (hexMost ≤ length (now room)) ⌝ }
+    ensures { λ r. ⌜ LaidFirst (now (line .entry)) (now (room .exit)) p r ⌝ }
+{
+    let from = p.from;
+    let to = p.to;
+    text::put_unhex(room, 0, &line[from..to])
+}
+
 // What is built stands first in the room, lent as it is for a store.
 fn build_in(line: &[u8], q: BuildCall, room: &mut [u8]) -> Writing
     requires { ⌜ HexPart (now line) (q .rows) × (storedMost ≤ length (now room)) ⌝ }
     ensures { λ r. ⌜ BuildsFirst (q .n) (bytesOf (now (line .entry)) (q .rows)) (q .d) (q .room) r (now (room .exit)) ⌝ }
 {
     let part = q.rows;
-    let from = part.from;
-    let to = part.to;
     let mut rows = [0u8; HEX];
-    let end = text::put_unhex(&mut rows, 0, &line[from..to]);
+    let end = lay_one(line, part, &mut rows);
     let lent = at_most(q.room, STORED);
     build(q.n, &rows[..end], q.d, &mut room[..lent])
 }
@@ -259,5 +270,28 @@ pub(crate) fn tell_distance(b: Bench, line: &[u8], q: DistanceCall, out: &mut [u
     let ends = lay_two(line, masks, depths, &mut room);
     let answer = distance_parts(q.n, &room, ends, q.target, q.d);
     let len = say_distance(out, answer);
+    Told { bench: b, len }
+}
+
+// What is read of a file stands first in the room, lent as it is for a store.
+fn draw_in(line: &[u8], q: EquationsCall, room: &mut [u8]) -> Drawn
+    requires { ⌜ HexPart (now line) (q .file) × (storedMost ≤ length (now room)) ⌝ }
+    ensures { λ r. ⌜ DrawsFirst (bytesOf (now (line .entry)) (q .file)) (q .room) r (now (room .exit)) ⌝ }
+{
+    let part = q.file;
+    let mut file = [0u8; HEX];
+    let end = lay_one(line, part, &mut file);
+    let lent = at_most(q.room, STORED);
+    drawing::equations(&file[..end], &mut room[..lent])
+}
+
+// `equations HEX ROOM`.
+pub(crate) fn tell_equations(b: Bench, line: &[u8], q: EquationsCall, out: &mut [u8; OUT]) -> Told
+    requires { ⌜ HexPart (now line) (q .file) ⌝ }
+    ensures { λ r. ⌜ Answers b (askEquations (bytesOf (now (line .entry)) (q .file)) (q .room)) (now (out .entry)) (now (out .exit)) r ⌝ }
+{
+    let mut room = [0u8; STORED];
+    let drawn = draw_in(line, q, &mut room);
+    let len = say_drawn(out, drawn, &room);
     Told { bench: b, len }
 }

@@ -48,5 +48,6 @@ pub fn answer_line(b: Bench, line: &[u8], out: &mut [u8; OUT]) -> Told
         Call::Show => calls::tell_show(b, out),
         Call::Build(q) => calls::tell_build(b, line, q, out),
         Call::Distance(q) => calls::tell_distance(b, line, q, out),
+        Call::Equations(q) => calls::tell_equations(b, line, q, out),
     }
 }

@@ -4,9 +4,9 @@ ghost use lib.ListN.{length, take};
 ghost use mathlib.Core.List.{_++_};
 ghost use Rattle.text.specs.Numbers.{labelled};
 ghost use Rattle.text.specs.Putting.{Put};
-ghost use Rattle.listing.specs.Printed.{newLine, refusedText};
+ghost use Rattle.listing.specs.Printed.{newLine, refusedText, placedText};
 ghost use Rattle.talk.specs.Texts.{verdictText, tallyText, reportText, reportedText, openText, reworkedText, editText, hexLine, distanceText};
-ghost use Rattle.talk.specs.Saying.{Said, storedMost, writtenIn};
+ghost use Rattle.talk.specs.Saying.{Said, storedMost, writtenIn, drawnIn};
 use crate::OUT;
 use crate::STORED;
 use bench::Edit;
@@ -18,6 +18,10 @@ use circuit::LINES;
 use circuit::Refusal;
 use circuit::Tally;
 use circuit::wide;
+use drawing::BAD_NAME;
+use drawing::BAD_TEXT;
+use drawing::Drawn;
+use drawing::NO_OUTPUTS;
 use stored::Writing;
 use text::at_most;
 use text::put_labelled;
@@ -123,7 +127,7 @@ pub(crate) fn say_edit(out: &mut [u8; OUT], e: Edit) -> usize
     }
 }
 
-// `stored COUNT HEX` or `built COUNT HEX`, of what stands first in a room. No stored form has more than 1,341 bytes; the
+// `stored COUNT HEX`, `built COUNT HEX` or `read COUNT HEX`, of what stands first in a room. No stored form has more than 1,341 bytes; the
 // test keeps to the answer's room on a bench that no calls yield.
 fn say_bytes(out: &mut [u8; OUT], name: &[u8], count: usize, room: &[u8]) -> usize
     requires { ⌜ (length (now name) ≤ 64) × (storedMost ≤ length (now room)) ⌝ }
@@ -154,6 +158,28 @@ fn say_number(out: &mut [u8; OUT], name: &[u8], x: usize) -> usize
 {
     let end = put_labelled(out, 0, name, x);
     text::put(out, end, b"\n")
+}
+
+// `refused N PLACE`.
+fn say_placed(out: &mut [u8; OUT], number: usize, place: usize) -> usize
+    ensures { λ r. ⌜ Said (now (out .entry)) (now (out .exit)) r (placedText number place ++ newLine) ⌝ }
+{
+    let end = listing::put_placed(out, number, place);
+    text::put(out, end, b"\n")
+}
+
+// What was read of a file and stands first in a room, or why nothing was.
+pub(crate) fn say_drawn(out: &mut [u8; OUT], drawn: Drawn, room: &[u8]) -> usize
+    requires { ⌜ storedMost ≤ length (now room) ⌝ }
+    ensures { λ r. ⌜ Said (now (out .entry)) (now (out .exit)) r (drawnIn drawn (now (room .entry))) ⌝ }
+{
+    match drawn {
+        Drawn::Stored(count) => say_bytes(out, b"read ", count, room),
+        Drawn::BadText(place) => say_placed(out, BAD_TEXT, place),
+        Drawn::BadName(place) => say_placed(out, BAD_NAME, place),
+        Drawn::NoOutputs => say_number(out, b"refused ", NO_OUTPUTS),
+        Drawn::NotStored(why) => say_refused(out, why),
+    }
 }
 
 // What a distance query answers.

@@ -64,14 +64,33 @@ returns-4 c =
     (is-other (e3 .before .same3 .ensures) (e3 .if3 .left)
     (is-word (c .before .before .same4 .ensures) (c .before .if4 .taken) (c .read-distance .ensures))))) .means
 
+slice-aggregate-same-5 : tie.Need-slice-aggregate-same-5
+slice-aggregate-same-5 c = search needs
+
+same-requires-5 : tie.Need-same-requires-5
+same-requires-5 c κs = search needs
+
+read-equations-requires : tie.Need-read-equations-requires
+read-equations-requires c κs = search needs
+
 returns-5 : tie.Need-returns-5
 returns-5 c =
-    let e4 = c in let e3 = e4 .before .before .before in let e2 = e3 .before .before .before in let e1 = e2 .before .before .before in
+    let e4 = c .before .before .before .before in let e3 = e4 .before .before .before in let e2 = e3 .before .before .before in let e1 = e2 .before .before .before in
     (is-other (e1 .before .same .ensures) (e1 .if1 .left)
     (is-other (e2 .before .same2 .ensures) (e2 .if2 .left)
     (is-other (e3 .before .same3 .ensures) (e3 .if3 .left)
     (is-other (e4 .before .same4 .ensures) (e4 .if4 .left)
-    is-none)))) .means
+    (is-word (c .before .before .same5 .ensures) (c .before .if5 .taken) (c .read-equations .ensures)))))) .means
+
+returns-6 : tie.Need-returns-6
+returns-6 c =
+    let e5 = c in let e4 = e5 .before .before .before in let e3 = e4 .before .before .before in let e2 = e3 .before .before .before in let e1 = e2 .before .before .before in
+    (is-other (e1 .before .same .ensures) (e1 .if1 .left)
+    (is-other (e2 .before .same2 .ensures) (e2 .if2 .left)
+    (is-other (e3 .before .same3 .ensures) (e3 .if3 .left)
+    (is-other (e4 .before .same4 .ensures) (e4 .if4 .left)
+    (is-other (e5 .before .same5 .ensures) (e5 .if5 .left)
+    is-none))))) .means
 
 pub bytes-call-spec : {M : Type 1} → statement M
 bytes-call-spec =
@@ -93,4 +112,8 @@ bytes-call-spec =
     same-requires-4
     read-distance-requires
     returns-4
-    returns-5)
+    slice-aggregate-same-5
+    same-requires-5
+    read-equations-requires
+    returns-5
+    returns-6)

@@ -107,6 +107,12 @@ enum-known-call-9 c = search needs
 tell-distance-requires : tie.Need-tell-distance-requires
 tell-distance-requires c κs = placed (c .before .before .before .before) _ (c .before .before .call9 .given .1)
 
+enum-known-call-10 : tie.Need-enum-known-call-10
+enum-known-call-10 c = search needs
+
+tell-equations-requires : tie.Need-tell-equations-requires
+tell-equations-requires c κs = placed (c .before .before .before .before) _ (c .before .before .call10 .given .1)
+
 returns : tie.Need-returns
 returns c = answers-as (asked (c .before .before) _ (c .enum-told .given .1)) (answers _ (silent-said _) (λ p k. (k .is, refl)))
 
@@ -152,6 +158,9 @@ returns-14 c = answers-as (asked (c .before .before .before .before .before) _ (
 returns-15 : tie.Need-returns-15
 returns-15 c = answers-as (asked (c .before .before .before .before .before) _ (c .before .before .before .call9 .given .1)) (c .tell-distance .ensures)
 
+returns-16 : tie.Need-returns-16
+returns-16 c = answers-as (asked (c .before .before .before .before .before) _ (c .before .before .before .call10 .given .1)) (c .tell-equations .ensures)
+
 pub answer-line-spec : {M : Type 1} → statement M
 answer-line-spec =
     tie.close
@@ -186,6 +195,8 @@ answer-line-spec =
     tell-build-requires
     enum-known-call-9
     tell-distance-requires
+    enum-known-call-10
+    tell-equations-requires
     returns
     returns-2
     returns-3
@@ -200,4 +211,5 @@ answer-line-spec =
     returns-12
     returns-13
     returns-14
-    returns-15)
+    returns-15
+    returns-16)

@@ -1,15 +1,15 @@
 -- `talk::calls::store_in` meets its contract. Assumes nothing.
 use mathlib.Core.Path.{_≡_}
 use native.Mathlib.Omega.{arith}
-use lib.ListN.{length, take, drop, length-take}
+use lib.ListN.{length, take, drop}
 use borrow.Author.Needs.{needs}
-use Rattle.talk.proofs.Storing.{stores-first}
+use Rattle.talk.proofs.Storing.{lent-long, stores-first}
 use Rattle.talk.proofs.calls.store_in.Statement.{statement}
 use Rattle.talk.proofs.calls.store_in.Tie as tie
 
 -- how long the lent part is
 size : (m : tie.After-at-most) → length (take (m .at-most .result) (m .before .before .args .room .now)) ≡ m .at-most .result
-size m = let s = m .before .before in omega (arith, m .at-most .ensures, s .pre, length-take (m .at-most .result) (s .args .room .now))
+size m = let s = m .before .before in lent-long (s .args .size) (s .args .room .now) (m .at-most .ensures) (s .pre)
 
 at-most-requires : tie.Need-at-most-requires
 at-most-requires c κs = search needs

@@ -1,0 +1,2 @@
+-- What the equations program writes for what it reads.
+pub mod Answered

@@ -1,0 +1,2 @@
+-- The names of a text.
+pub mod Known

@@ -1,0 +1,2 @@
+-- What an equation file means.
+pub mod Meaning

@@ -1,0 +1,1 @@
+// No code: what an equation file means, and that its circuit gives that.

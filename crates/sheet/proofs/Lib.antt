@@ -1,0 +1,3 @@
+-- The laws of the reader of a file.
+pub mod Laws
+pub mod Shape

@@ -1,0 +1,2 @@
+-- The reader of a file as a function of the text.
+pub mod Sheet
