@@ -1,4 +1,4 @@
-/* Allpawasi for C: the circuit bench, the builder and the distance query, as the proved static library has them.
+/* Allpawasi for C: the circuit bench, the builder, the distance query and the reader of equation files, as the proved static library has them.
  *
  * Link target/staticlib/liblent.a (`rt staticlib lent`). A `const uint8_t *` and the length after it name bytes that may be read; a `uint8_t *` and a length name a room
  * that may be written. Where a length is 0 the pointer is not followed, but it must not be null: pass any valid address.
@@ -9,7 +9,8 @@
  * accepted, it leaves the right one; refused, the one it was given.
  *
  * Refusals are the definition's numbers: 1 shape, 2 length, 3 mark, 4 kind, 5 operand, 6 no such line, 7 not XOR under a
- * matrix, 8 target, 9 depth above 15, 10 too shallow, 11 room too short, 12 not there, 13 nothing open. */
+ * matrix, 8 target, 9 depth above 15, 10 too shallow, 11 room too short, 12 not there, 13 nothing open, 15 bad text,
+ * 16 name unknown, set twice or an input set, 17 no input, no output or an output gap. */
 #ifndef ALLPAWASI_H
 #define ALLPAWASI_H
 
@@ -50,6 +51,11 @@ typedef struct {
     size_t refusal, gates, xors, nonlinear, nots, depth, and_depth, verdict, input, output;
 } allpawasi_figures;
 
+/* refusal: 0, or why. count: how many bytes stand first in the room. place, of 15 and 16: the number of bytes before it; 0 otherwise. */
+typedef struct {
+    size_t refusal, count, place;
+} allpawasi_reading;
+
 /* 0, or why it was refused. */
 size_t allpawasi_open_matrix(allpawasi_bench *bench, const uint8_t *bytes, size_t length, const uint8_t *rows, size_t row_count,
                              uint8_t max_gates, uint8_t max_depth, uint8_t max_and_depth);
@@ -75,5 +81,8 @@ size_t allpawasi_build(size_t n, const uint8_t *rows, size_t row_count, size_t d
 /* The fewest XOR gates that make a target over a base; 99 where no program does; 100 and the refusal's number. */
 uint64_t allpawasi_distance(size_t n, const uint8_t *masks, size_t mask_count, const uint8_t *depths, size_t depth_count,
                             size_t target, size_t depth);
+
+/* Reads an equation file, one assignment a line: its stored circuit first in the room. */
+allpawasi_reading allpawasi_equations(const uint8_t *text, size_t length, uint8_t *room, size_t room_length);
 
 #endif

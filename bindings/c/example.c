@@ -1,6 +1,8 @@
-/* A designer's morning in C: build an XOR program, open it, break a gate, look, mend it, store. */
+/* A designer's morning in C: build an XOR program, open it, break a gate, look, mend it, store; read an equation file with a
+ * slip, mend it, open it with its table. */
 #include "allpawasi.h"
 #include <stdio.h>
+#include <string.h>
 
 static void tell(const allpawasi_bench *bench) {
     allpawasi_figures f = allpawasi_report(bench);
@@ -11,6 +13,16 @@ static void tell(const allpawasi_bench *bench) {
     } else {
         printf("%s, %zu gates, depth %zu\n", f.verdict == 0 ? "pass" : "over a limit", f.gates, f.depth);
     }
+}
+
+static size_t read_equations(const char *text, uint8_t *room, size_t room_length) {
+    allpawasi_reading r = allpawasi_equations((const uint8_t *)text, strlen(text), room, room_length);
+    if (r.refusal) {
+        printf("refused %zu at %zu\n", r.refusal, r.place);
+    } else {
+        printf("read %zu bytes\n", r.count);
+    }
+    return r.count;
 }
 
 int main(void) {
@@ -35,5 +47,11 @@ int main(void) {
     tell(&bench);
     printf("stored %zu bytes\n", allpawasi_store(&bench, room, sizeof room));
     printf("distance %llu\n", (unsigned long long)allpawasi_distance(3, rows, 3, (const uint8_t[]){0, 0, 0}, 3, 5, 4));
+
+    const uint8_t table[] = {0, 1, 1, 2, 1, 2, 2, 3}; /* how many of three inputs are 1 */
+    read_equations("half = x0 ^ x1\ny0 = hall ^ x2\n", room, sizeof room);
+    size_t count = read_equations("half = x0 ^ x1\ny0 = half ^ x2\ny1 = x0 & x1 | half & x2\n", room, sizeof room);
+    printf("open %zu\n", allpawasi_open_table(&bench, room, count, table, 8, 5, 3, 2));
+    tell(&bench);
     return 0;
 }

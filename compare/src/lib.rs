@@ -1,8 +1,11 @@
-//! Random circuits, targets and calls, for comparing the proved library with the independent program, and the count of what
-//! a comparison met.
+//! Random circuits, targets, calls and equation files, for comparing the proved library with the independent program, and
+//! the count of what a comparison met.
 
 pub mod calls;
 pub mod circuits;
+pub mod edges;
+pub mod files;
+pub mod long_files;
 pub mod met;
 pub mod pair;
 pub mod programs;

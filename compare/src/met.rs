@@ -91,6 +91,16 @@ impl Met {
         self.done_and_refused(call, numbers);
     }
 
+    /// The end of a comparison that met each answer many times: the call was done, and refused with each of these numbers,
+    /// so often at least, and refused with no other.
+    pub fn ends_often(&self, title: &str, call: &str, numbers: &[usize], least: usize) {
+        self.ends(title, call, numbers);
+        for kind in numbers.iter().map(|number| Kind::Refused(*number)).chain([Kind::Done]) {
+            let times = self.times(call, &kind);
+            assert!(times >= least, "{call}: {kind} {times} times, not {least}");
+        }
+    }
+
     /// The call said each of these.
     pub fn said(&self, call: &str, words: &[&str]) {
         self.said_at_least(call, words, 1);

@@ -1,6 +1,7 @@
 //! Random scripts in the call language of `desk`: sound calls, refused ones, and lines that are none.
 
 use crate::calls::{self, Call, Present};
+use crate::files::{damaged, file};
 use crate::met::{Kind, Met};
 use allpawasi::Limits;
 use reference::bench::Bench;
@@ -77,6 +78,13 @@ fn distance(rng: &mut Rng) -> String {
     format!("distance {} {} {} {}", typed(rng, &[typed_n]), hex(rng, &masks), hex(rng, &depths), typed(rng, &[target, d]))
 }
 
+fn equations(rng: &mut Rng) -> String {
+    let sound = file(rng);
+    let text = if rng.once_in(2) { damaged(rng, &sound) } else { sound };
+    let room = if rng.once_in(3) { number(rng, 200) } else { 2000 };
+    format!("equations {} {}", hex(rng, &text), typed(rng, &[room]))
+}
+
 /// A line that is a call of the right form, and the call's name.
 fn call(rng: &mut Rng, present: Option<&Present>) -> (&'static str, String) {
     let alone = |name: &'static str| (name, name.to_string());
@@ -87,6 +95,7 @@ fn call(rng: &mut Rng, present: Option<&Present>) -> (&'static str, String) {
         19 | 20 => alone("show"),
         21..=23 => ("build", build(rng)),
         24..=27 => ("distance", distance(rng)),
+        28 | 29 => ("equations", equations(rng)),
         _ => on_bench(rng, present),
     }
 }
@@ -118,7 +127,7 @@ fn spoiled(rng: &mut Rng, line: String) -> Vec<u8> {
 pub fn kind(answer: &str) -> Kind {
     let words: Vec<&str> = answer.split_whitespace().collect();
     match words[..] {
-        ["refused", number] => Kind::Refused(number.parse().expect("a number")),
+        ["refused", number, ..] => Kind::Refused(number.parse().expect("a number")),
         ["report", .., "wrong", _, _] => Kind::Says("wrong".to_string()),
         ["report", .., verdict] | ["distance", verdict @ "none"] => Kind::Says(verdict.to_string()),
         [] => Kind::Says("nothing".to_string()),

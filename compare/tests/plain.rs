@@ -1,14 +1,16 @@
 //! The library beside the plain ways of the independent program, which keep no table and hold no words: the builder and the
-//! distance by every set of lines, the distance by every program, and circuits worked input value by input value.
+//! distance by every set of lines, the distance by every program, circuits worked input value by input value, and equation
+//! files by splitting their text.
 
 use allpawasi::distance;
 use compare::calls::{concerning, Call};
 use compare::circuits::{circuit, point_at_sums};
+use compare::files::{damaged, file};
 use compare::met::{gates, Kind, Met};
 use compare::pair::{our_report, value, Pair};
 use compare::targets::{near_limits, near_target};
 use reference::circuit::write;
-use reference::plain::{bench, builder};
+use reference::plain::{bench, builder, equations};
 use reference::rng::Rng;
 
 /// Matrices of 8 inputs and 16 to 32 rows, at every depth at which each row is in reach, byte for byte.
@@ -106,4 +108,24 @@ fn circuits_of_the_most_gates() {
     }
     pair.met.show("circuits of 248 gates");
     pair.met.verdicts();
+}
+
+/// Equation files of up to 2,000 bytes, as they are and damaged.
+#[test]
+fn equation_files_by_splitting() {
+    let (mut rng, mut met) = (Rng::new(25), Met::default());
+    for round in 0..6_000 {
+        let sound = file(&mut rng);
+        let text = if round % 2 == 0 { damaged(&mut rng, &sound) } else { sound };
+        if text.len() > 2_000 {
+            continue;
+        }
+        let mut room = [0; 1341];
+        let ours = allpawasi::equations(&text, &mut room);
+        let plain = equations::read(&text).map(|c| write(&c));
+        let stored = ours.map(|count| room[..count].to_vec()).map_err(|not_read| (not_read.refusal, not_read.place));
+        assert_eq!(stored, plain.map_err(|no| (no.number.into(), no.place)), "{:?}", String::from_utf8_lossy(&text));
+        met.answer("equations", &ours.map_err(|not_read| not_read.refusal), |_| Kind::Done);
+    }
+    met.ends_often("equation files by splitting", "equations", &[1, 15, 16, 17], 100);
 }

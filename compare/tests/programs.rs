@@ -1,6 +1,8 @@
 //! The linked programs beside the independent ones, in a stack of 1 MiB: random scripts and inputs, long lines, input that
 //! ends anywhere, bytes that mean nothing, and an output that nobody reads.
 
+use compare::files::{damaged, file};
+use compare::long_files::{designers, worst};
 use compare::met::Met;
 use compare::programs::{run, start};
 use compare::scripts::{kind, script};
@@ -27,6 +29,7 @@ fn whole_language(met: &Met) {
     met.done_and_refused("show", &[13]);
     met.done_and_refused("build", &[1, 8, 9, 10, 11]);
     met.done_and_refused("distance", &[1, 2, 8, 9]);
+    met.done_and_refused("equations", &[1, 11, 15, 16, 17]);
     met.said("distance", &["none"]);
     met.said("spoiled", &["unreadable", "nothing"]);
 }
@@ -85,7 +88,8 @@ fn bytes_that_mean_nothing() {
     for _ in 0..1_000 {
         let bytes: Vec<u8> = (0..rng.below(600)).map(|_| rng.below(256) as u8).collect();
         same("desk", &bytes, &desk::run(&bytes));
-        same("build", &bytes, &program::run(&bytes));
+        same("build", &bytes, &program::build(&bytes));
+        same("equations", &bytes, &program::equations(&bytes));
     }
 }
 
@@ -108,11 +112,53 @@ fn random_matrices() {
             }
             _ => {}
         }
-        let expected = program::run(&input);
+        let expected = program::build(&input);
         same("build", &input, &expected);
         met.count("build", kind(&String::from_utf8_lossy(&expected)));
     }
     met.ends("the build program on random matrices", "build", &[1, 2, 8, 9, 10]);
+}
+
+#[test]
+fn random_equation_files() {
+    let (mut rng, mut met) = (Rng::new(16), Met::default());
+    for round in 0..900 {
+        let sound = file(&mut rng);
+        let text = if round % 2 == 0 { damaged(&mut rng, &sound) } else { sound };
+        let expected = program::equations(&text);
+        same("equations", &text, &expected);
+        met.count("equations", kind(&String::from_utf8_lossy(&expected)));
+    }
+    met.ends("the equations program on random files", "equations", &[1, 15, 16, 17]);
+}
+
+/// The program reads 65,535 bytes and no more.
+#[test]
+fn equation_files_around_the_longest() {
+    for length in [0, 1, 65_534, 65_535, 65_536, 65_537, 131_072, 200_000, 1_000_000] {
+        for byte in *b" \n~(a=?" {
+            let mut text = if length > 7 { b"y0 = x0".to_vec() } else { Vec::new() };
+            text.resize(length, byte);
+            same("equations", &text, &program::equations(&text));
+            text.reverse();
+            same("equations", &text, &program::equations(&text));
+        }
+    }
+}
+
+/// Texts that are as much work as their length allows, in a small stack: to the program, and as far as a line goes at the desk.
+#[test]
+fn long_equation_files() {
+    let mut texts: Vec<Vec<u8>> = worst().into_iter().map(|(_, text)| text).collect();
+    texts.push(designers());
+    for text in texts {
+        same("equations", &text, &program::equations(&text));
+        for length in [32_759, 32_760, 32_761] {
+            let hex: String = text.iter().take(length).map(|byte| format!("{byte:02x}")).collect();
+            let line = format!("equations {hex} 1341\nreport\n").into_bytes();
+            same("desk", &line, &desk::run(&line));
+        }
+    }
 }
 
 /// A person sees each answer before the next line is typed.

@@ -1,9 +1,10 @@
-//! Times the proved library beside the independent program, in one run on the same inputs, and prints a table of ratios.
+//! Times the proved library beside the independent program, in one run on the same inputs, and prints tables of ratios.
 //! Rounds of both take turns; a row has the median of each and the spread of their ratio.
 
 mod bench;
 mod builder;
 mod distance;
+mod equations;
 
 use std::hint::black_box;
 use std::time::Instant;
@@ -11,11 +12,16 @@ use std::time::Instant;
 const ROUNDS: usize = 15;
 
 /// Microseconds a call: the median over the rounds, and the least and greatest ratio of a round.
-pub fn row(name: &str, calls: usize, mut ours: impl FnMut(), mut theirs: impl FnMut()) {
+pub fn row(name: &str, calls: usize, ours: impl FnMut(), theirs: impl FnMut()) {
+    row_in(1e6, name, calls, ours, theirs);
+}
+
+/// The same in a unit of which a second has so many.
+pub fn row_in(units: f64, name: &str, calls: usize, mut ours: impl FnMut(), mut theirs: impl FnMut()) {
     let time = |work: &mut dyn FnMut()| {
         let start = Instant::now();
         work();
-        start.elapsed().as_secs_f64() * 1e6 / calls as f64
+        start.elapsed().as_secs_f64() * units / calls as f64
     };
     time(&mut ours);
     time(&mut theirs);
@@ -27,7 +33,8 @@ pub fn row(name: &str, calls: usize, mut ours: impl FnMut(), mut theirs: impl Fn
     rounds.sort_by(|x, y| x.1.total_cmp(&y.1));
     let native = rounds[ROUNDS / 2].1;
     let (least, middle, most) = (ratios[1], ratios[ROUNDS / 2], ratios[ROUNDS - 2]);
-    println!("| {name} | {proved:.2} | {native:.2} | {middle:.2} | {least:.2} to {most:.2} |");
+    let digits = if units < 1e6 { 3 } else { 2 };
+    println!("| {name} | {proved:.digits$} | {native:.digits$} | {middle:.2} | {least:.2} to {most:.2} |");
 }
 
 /// Uses an answer, so that no call is left out.
@@ -35,10 +42,18 @@ pub fn keep<T>(answer: T) {
     black_box(&answer);
 }
 
-fn main() {
-    println!("| call | proved, µs | native, µs | ratio | spread |");
+/// The head of a table.
+fn head(unit: &str) {
+    println!("| call | proved, {unit} | native, {unit} | ratio | spread |");
     println!("|---|---|---|---|---|");
+}
+
+fn main() {
+    head("µs");
     bench::measure();
     distance::measure();
     builder::measure();
+    println!();
+    head("ms");
+    equations::measure();
 }

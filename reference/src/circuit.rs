@@ -2,6 +2,8 @@
 //! writing, and storing into lent room.
 
 pub const XOR: u8 = 0;
+pub const AND: u8 = 2;
+pub const OR: u8 = 4;
 pub const NOT: u8 = 6;
 
 pub const MAX_INPUTS: u8 = 8;

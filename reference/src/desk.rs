@@ -1,12 +1,12 @@
 //! The desk: the call language a person works the bench with, one call a line and an answer for
-//! each, over the bench, the builder and the distance query.
+//! each, over the bench, the builder, the distance query and the reader of equation files.
 
 use std::io::{self, BufRead, BufReader, BufWriter, Read, Write};
 
 use crate::bench::Bench;
 use crate::circuit::MAX_STORED;
 use crate::examine::{Limits, Lines, Report, Target, Words};
-use crate::{builder, distance, listing};
+use crate::{builder, distance, equations, listing};
 
 /// A longer line is no call. Its LF, and a CR before that, are not counted.
 const LONGEST_LINE: usize = 65_535;
@@ -14,11 +14,18 @@ const LONGEST_LINE: usize = 65_535;
 enum Fault {
     Unreadable,
     Refused(u8),
+    NotRead(equations::Refusal),
 }
 
 impl From<u8> for Fault {
     fn from(number: u8) -> Fault {
         Fault::Refused(number)
+    }
+}
+
+impl From<equations::Refusal> for Fault {
+    fn from(refusal: equations::Refusal) -> Fault {
+        Fault::NotRead(refusal)
     }
 }
 
@@ -85,6 +92,7 @@ pub fn answer(bench: &mut Bench, line: &[u8]) -> String {
         Ok(text) => text + "\n",
         Err(Fault::Unreadable) => "unreadable\n".to_string(),
         Err(Fault::Refused(number)) => format!("refused {number}\n"),
+        Err(Fault::NotRead(refusal)) => listing::not_read(&refusal) + "\n",
     }
 }
 
@@ -117,6 +125,7 @@ fn call(bench: &mut Bench, word: &[u8], rest: &[&[u8]]) -> Result<String, Fault>
         (b"show", []) => show(bench),
         (b"build", &[n, rows, d, room]) => build(n, rows, d, room),
         (b"distance", &[n, masks, depths, t, d]) => query(n, masks, depths, t, d),
+        (b"equations", &[text, room]) => read_equations(text, room),
         _ => Err(Fault::Unreadable),
     }
 }
@@ -251,4 +260,10 @@ fn query(n: &[u8], masks: &[u8], depths: &[u8], t: &[u8], d: &[u8]) -> Result<St
         Some(gates) => format!("distance {gates}"),
         None => "distance none".to_string(),
     })
+}
+
+fn read_equations(text: &[u8], room: &[u8]) -> Result<String, Fault> {
+    let (text, mut room) = (bytes(text)?, lend(number(room)?));
+    let count = equations::read_into(&text, &mut room)?;
+    Ok(format!("read {count} {}", listing::hex(&room[..count])))
 }

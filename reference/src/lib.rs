@@ -1,11 +1,12 @@
-//! Allpawasi's reference: the circuit bench, the builder and the distance query,
-//! written from the definition alone so that the product can be compared with it.
+//! Allpawasi's reference: the circuit bench, the builder, the distance query and the reader of equation
+//! files, written from the definition alone so that the product can be compared with it.
 
 pub mod bench;
 pub mod builder;
 pub mod circuit;
 pub mod desk;
 pub mod distance;
+pub mod equations;
 pub mod examine;
 pub mod listing;
 pub mod plain;

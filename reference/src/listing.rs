@@ -1,7 +1,8 @@
 //! The circuit as the screen shows it: a line for each gate and for each output, and the words
-//! for a verdict. Shared by the desk and the build program.
+//! for a verdict and for a file that is not read. Shared by the desk and the small programs.
 
 use crate::circuit::{Circuit, Gate};
+use crate::equations::Refusal;
 use crate::examine::Verdict;
 
 fn name(n: u8, line: u8) -> String {
@@ -52,6 +53,12 @@ pub fn verdict(verdict: &Verdict) -> String {
         Verdict::OverAndDepth => "over-anddepth".to_string(),
         Verdict::Pass => "pass".to_string(),
     }
+}
+
+/// The words for a refused equation file: the number, and the place where there is one.
+pub fn not_read(refusal: &Refusal) -> String {
+    let place = refusal.place.map_or(String::new(), |place| format!(" {place}"));
+    format!("refused {}{place}", refusal.number)
 }
 
 /// Bytes as lower-case hexadecimal digits.

@@ -70,6 +70,38 @@ fn stores_builds_and_measures() {
     assert_eq!(answers(refusals), "refused 1\nrefused 2\nrefused 8\nrefused 9\n");
 }
 
+/// The call for a file, with room for any circuit.
+fn equations(file: &str) -> String {
+    let hex: String = file.bytes().map(|byte| format!("{byte:02x}")).collect();
+    answers(&format!("equations {} 1341\n", if hex.is_empty() { "-" } else { &hex }))
+}
+
+#[test]
+fn reads_equations() {
+    let file = "7930203d20783020262078310a";
+    let read = "read 13 534802010147540200014f5002\n";
+    assert_eq!(
+        answers(&format!("equations {file} 13\nequations {file} 18446744073709551615\n")),
+        read.repeat(2)
+    );
+    assert_eq!(answers(&format!("equations {file} 12\nequations {file} 0\n")), "refused 11\n".repeat(2));
+    assert_eq!(equations("y0 = x0 & x1\n"), read);
+    assert_eq!(equations("y0 = x0 &\n"), "refused 15 9\n");
+    assert_eq!(equations("y0 = x0 &"), "refused 15 9\n");
+    assert_eq!(equations("?"), "refused 15 0\n");
+    assert_eq!(equations("y0 = carry & x1"), "refused 16 9\n");
+    assert_eq!(equations(""), "refused 17\n");
+    assert_eq!(equations(&format!("y0 = {}x0", "~".repeat(249))), "refused 1\n");
+    assert_eq!(
+        on_open("equations 7930 3\nreport"),
+        on_open("equations 7930 3").to_string() + &on_open("report")
+    );
+    let long = |spaces: usize| format!("equations {} 1341", "20".repeat(spaces));
+    assert_eq!(long(32_760).len(), 65_535);
+    assert_eq!(answers(&long(32_760)), "refused 17\n");
+    assert_eq!(answers(&long(32_761)), "unreadable\n");
+}
+
 #[test]
 fn large_numbers_are_refused_by_what_they_name() {
     for (line, number) in [
@@ -109,6 +141,7 @@ fn unknown_words_and_counts_are_no_call() {
     all_unreadable(&["Report", "report 1", "new x", "held 0", "show all", "-", "open", "store", "gate"]);
     all_unreadable(&["gate 0 3 0", "gate 0 3 0 1 1", "output 0", "output 0 0 0", "entry 0", "limits 1 1"]);
     all_unreadable(&["build 3 03 2", "build 3 03 2 29 1", "distance 4 01 00 1", "distance 4 01 00 1 1 1"]);
+    all_unreadable(&["equations", "equations -", "equations - 1 1", "equations 7 1", "equations 79 x"]);
     all_unreadable(&["open - matrix - 0 0", "open - Matrix - 0 0 0", "open 53 48 table - 0 0 0"]);
     all_unreadable(&["\treport", "report\t", "report\r\r", "\rreport", " #"]);
     assert_eq!(run(b"\xff\xfe\nreport\x00\n"), b"unreadable\nunreadable\n");
@@ -171,8 +204,11 @@ fn the_programs_read_and_write() {
     let desk = piped(env!("CARGO_BIN_EXE_desk"), format!("{OPEN}report\n{EXAMPLE}").as_bytes());
     assert_eq!(desk, EXAMPLE_ANSWERS.as_bytes());
     let build = env!("CARGO_BIN_EXE_build-program");
-    assert_eq!(piped(build, &[3, 3, 2, 3, 7, 6]), reference::program::run(&[3, 3, 2, 3, 7, 6]));
+    assert_eq!(piped(build, &[3, 3, 2, 3, 7, 6]), reference::program::build(&[3, 3, 2, 3, 7, 6]));
     assert_eq!(piped(build, &[]), b"refused 2\n");
+    let equations = env!("CARGO_BIN_EXE_equations");
+    assert_eq!(piped(equations, b"y0 = x0 & x1\n"), b"534802010147540200014f5002\n");
+    assert_eq!(piped(equations, b"y0 = x0\ny1 = y2\n"), b"refused 16 14 line 2 column 7\n");
 }
 
 #[test]

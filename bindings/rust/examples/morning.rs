@@ -1,6 +1,7 @@
-//! A designer's morning in Rust: build an XOR program, open it, break a gate, look, mend it, store.
+//! A designer's morning in Rust: build an XOR program, open it, break a gate, look, mend it, store; read an equation file with
+//! a slip, mend it, open it with its table.
 
-use allpawasi::{build, distance, Bench, Limits, Refusal};
+use allpawasi::{build, distance, equations, Bench, Limits, Refusal};
 
 fn main() -> Result<(), Refusal> {
     let rows = [3, 7, 6];
@@ -20,5 +21,13 @@ fn main() -> Result<(), Refusal> {
     println!("{:?}", bench.report()?.verdict);
     println!("stored {} bytes", bench.store(&mut room)?);
     println!("distance {:?}", distance(3, &rows, &[0, 0, 0], 5, 4)?);
+
+    println!("{:?}", equations(b"half = x0 ^ x1\ny0 = hall ^ x2\n", &mut room));
+    let text = b"half = x0 ^ x1\ny0 = half ^ x2\ny1 = x0 & x1 | half & x2\n";
+    let count = equations(text, &mut room).map_err(|not_read| not_read.refusal)?;
+    println!("read {count} bytes");
+    let ones = [0, 1, 1, 2, 1, 2, 2, 3]; // how many of three inputs are 1
+    bench.open_table(&room[..count], &ones, Limits { gates: 5, depth: 3, and_depth: 2 })?;
+    println!("{:?}", bench.report()?.verdict);
     Ok(())
 }

@@ -1,12 +1,19 @@
-//! The circuit bench, the builder and the distance query, proved in Rattle. Nothing is tested here: the proved functions
-//! answer every input, and this only turns their numbers into Rust's own types.
+//! The circuit bench, the builder, the distance query and the reader of equation files, proved in Rattle. Nothing is tested
+//! here: the proved functions answer every input, and this only turns their numbers into Rust's own types.
 
 mod raw;
 
 pub use raw::Words;
 
-/// The definition's number of a refusal, 1 to 13.
+/// The definition's number of a refusal, 1 to 13 or 15 to 17.
 pub type Refusal = usize;
+
+/// Why an equation file was not read. 15 and 16 have a place: the number of bytes before it.
+#[derive(Clone, Copy, Debug, PartialEq, Eq)]
+pub struct NotRead {
+    pub refusal: Refusal,
+    pub place: Option<usize>,
+}
 
 /// The three limits; 0 means none allowed.
 #[derive(Clone, Copy, Debug, PartialEq, Eq)]
@@ -130,6 +137,14 @@ pub fn distance(n: usize, masks: &[u8], depths: &[u8], target: usize, depth: usi
         code if code >= 100 => Err(code as usize - 100),
         gates => Ok(Some(gates)),
     }
+}
+
+/// Reads an equation file: its circuit's stored bytes first in the room, and how many.
+pub fn equations(text: &[u8], room: &mut [u8]) -> Result<usize, NotRead> {
+    let reading = raw::equations(text, room);
+    let place = matches!(reading.refusal, 15 | 16).then_some(reading.place);
+    accepted(reading.refusal).map_err(|refusal| NotRead { refusal, place })?;
+    Ok(reading.count)
 }
 
 /// 0, or a refusal's number.

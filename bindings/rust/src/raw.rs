@@ -55,6 +55,13 @@ pub struct Figures {
     pub output: usize,
 }
 
+#[repr(C)]
+pub struct Reading {
+    pub refusal: usize,
+    pub count: usize,
+    pub place: usize,
+}
+
 impl Bench {
     pub fn empty() -> Bench {
         Bench {
@@ -91,6 +98,7 @@ extern "C" {
     fn allpawasi_restore(bytes: *const u8, length: usize, only: bool, room: *mut u8, room_length: usize) -> usize;
     fn allpawasi_build(n: usize, rows: *const u8, count: usize, depth: usize, room: *mut u8, length: usize) -> usize;
     fn allpawasi_distance(n: usize, masks: *const u8, lines: usize, depths: *const u8, count: usize, target: usize, depth: usize) -> u64;
+    fn allpawasi_equations(text: *const u8, length: usize, room: *mut u8, room_length: usize) -> Reading;
 }
 
 pub fn open_matrix(bench: &mut Bench, bytes: &[u8], rows: &[u8], limits: Limits) -> usize {
@@ -135,4 +143,8 @@ pub fn build(n: usize, rows: &[u8], depth: usize, room: &mut [u8]) -> usize {
 
 pub fn distance(n: usize, masks: &[u8], depths: &[u8], target: usize, depth: usize) -> u64 {
     unsafe { allpawasi_distance(n, masks.as_ptr(), masks.len(), depths.as_ptr(), depths.len(), target, depth) }
+}
+
+pub fn equations(text: &[u8], room: &mut [u8]) -> Reading {
+    unsafe { allpawasi_equations(text.as_ptr(), text.len(), room.as_mut_ptr(), room.len()) }
 }

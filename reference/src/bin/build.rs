@@ -5,5 +5,5 @@ use std::io::{self, Read, Write};
 fn main() -> io::Result<()> {
     let mut input = Vec::new();
     io::stdin().lock().read_to_end(&mut input)?;
-    io::stdout().lock().write_all(&reference::program::run(&input))
+    io::stdout().lock().write_all(&reference::program::build(&input))
 }
