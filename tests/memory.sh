@@ -9,6 +9,11 @@ session=$(sed -n '/^```desk$/,/^```$/p' README.md | grep '^> ' | cut -c3-) || ex
     head -c 70000 /dev/zero | tr '\0' 'x'
     printf '\nreport'
 } | watch target/bin/desk || exit 1
+{ sed -n '/^```equations$/,/^```$/p' README.md | sed '/^```/d' | head -n 7; } | watch target/bin/equations || exit 1
+for input in 'y0=(((((((((((((((((((((((((((((((((x0\n' 'a = b' 'y0 = x0' '' '\n\n \n'; do
+    printf "$input" | watch target/bin/equations || exit 1
+done
+head -c 70000 /dev/zero | tr '\0' '~' | watch target/bin/equations || exit 1
 for input in '\003\003\002\003\007\006' '\010\001\002\377' '\010\004\003\377\176\201\132' '\001' ''; do
     printf "$input" | watch target/bin/build || exit 1
 done
