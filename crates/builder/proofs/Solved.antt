@@ -10,8 +10,9 @@ use lib.ListN.{length, getD, length-append, length-map}
 use Rattle.circuit.specs.declared.Answer.the-variants.{Done, Refused}
 use Rattle.circuit.specs.declared.Refusal.the-variants.{TooShallow}
 use Rattle.circuit.specs.Gate.{rowOn}
-use Rattle.circuit.specs.Lines.{gateAt, depthOf, outputOn, greatest, depthStep, truthStep, anyOf, lines, values}
+use Rattle.circuit.specs.Lines.{gateAt, depths, depthOf, outputOn, depthStep, truthStep, anyOf, lines, values}
 use Rattle.circuit.specs.Rules.{shaped, gateAnswer, outAnswer, gatesAnswer, outsAnswer, listingAnswer}
+use Rattle.circuit.proofs.LineLaws.{greatest-read}
 use Rattle.circuit.proofs.ParityLaws.{row-none}
 use Rattle.circuit.proofs.RuleLaws.{two-fit}
 use Rattle.distance.specs.Base.{Line, line, none, Xor, made, run, Reads, Makes, Small, inputs, weight}
@@ -124,9 +125,10 @@ inputs-shallow : (D n : ℕ) → Within D (inputs n)
 inputs-shallow D zero = tt
 inputs-shallow D (suc n) = within-snoc D (inputs n) (line (2 ^ n) 0) (inputs-shallow D n) (omega arith)
 
-greatest-within : (D : ℕ) (ls : List Line) → Within D ls → greatest (map (λ (l : Line). l .depth) ls) ≤ D
-greatest-within D [] w = omega arith
-greatest-within D (l ∷ ls) w = omega (arith, w .0, greatest-within D ls (w .1))
+depth-at : (D : ℕ) (ls : List Line) → Within D ls → (i : ℕ) → getD (map (λ (l : Line). l .depth) ls) i 0 ≤ D
+depth-at D [] w i = omega arith
+depth-at D (l ∷ ls) w zero = w .0
+depth-at D (l ∷ ls) w (suc i) = depth-at D ls (w .1) i
 
 -- ---- a matrix that nothing refuses
 module _ (n : ℕ) (ts : List ℕ) (D : ℕ) (a : Accepted n ts D) where
@@ -164,7 +166,8 @@ module _ (n : ℕ) (ts : List ℕ) (D : ℕ) (a : Accepted n ts D) where
   shallow =
       let e = ap (λ (l : List ℕ). lines depthStep 0 l (gateAt (greedyCircuit n (inputs n) rs)) (length (map xorGate gs))) (input-depths n)
       ∙ lines-whole (λ (l : Line). l .depth) depthStep 0 refl depth-step (inputs n) gs in
-      omega (arith, ap greatest e, greatest-within D all (reached .deep D (deepest-within D ts) (inputs-shallow D n)))
+      let deep = reached .deep D (deepest-within D ts) (inputs-shallow D n) in
+      greatest-read (depths n (gateAt (built n ts D)) (length (built n ts D .gates))) D (λ i. omega (arith, ap (λ (l : List ℕ). getD l i 0) e, depth-at D all deep i)) (built n ts D .outs)
 
   -- each row has a line
   pub row-made : (i : ℕ) → i < length ts → MadeAt all (row (getD ts i 0) D) (lowest all (row (getD ts i 0) D))

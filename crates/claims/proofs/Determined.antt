@@ -1,7 +1,7 @@
 -- For each public function: two results that meet its promise are equal, the answer, the bench and each lent byte.
 --
 -- A promise that is an equation, `r ≡ x`, is under `determined`, whatever r is. These are:
---   circuit:  low16, low_byte, from_byte, no_circuit, gate::{eval_gate, second_read, and_weight, tally}, depth::{deeper, greatest_of, depth_of},
+--   circuit:  low16, low_byte, from_byte, no_circuit, gate::{eval_gate, second_read, and_weight, tally}, depth::{deeper, greatest_of, overall_of, depth_of},
 --             rules::{is_shape, check_gate, check_output}, and, in the first half of their promise, wide, wide16, line_index and refusal_no
 --   stored:   reader::read, restore::writing_code
 --   distance: distance, distance_no, refusal_no, table::cost

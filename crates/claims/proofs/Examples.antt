@@ -21,7 +21,7 @@ use Rattle.builder.specs.Call.{built, refusal}
 use Rattle.builder.proofs.Examples as building
 use Rattle.targets.specs.Target.{matrix, table, rowFits, entryFits, targetFits}
 use Rattle.bench.specs.declared.Verdict.{Verdict}
-use Rattle.bench.specs.declared.Verdict.the-variants.{Wrong, OverDepth, Pass}
+use Rattle.bench.specs.declared.Verdict.the-variants.{Wrong, Pass}
 use Rattle.bench.specs.declared.Reported.{Reported}
 use Rattle.bench.specs.declared.Reported.the-variants.{Given}
 use Rattle.bench.specs.State.{least, verdictOf, reportOf, limits}
@@ -109,8 +109,8 @@ pub record Examples : Type 0 where
       × (gateEdit (presentAfter calls8) 0 3 0 1 .answer ≡ Done) × (gateEdit (presentAfter calls8) 0 3 0 1 .count ≡ 1) × (getD (gateEdit (presentAfter calls8) 0 3 0 1 .lines) 0 0 ≡ 2)
   -- K10: pass after the fourth, and not before
   pub K10 : (reported (presentAfter three10) ≡ reporting 1 0 1 0 1 1 (wrong 3 0)) × (reported (presentAfter calls10) ≡ reporting 1 0 1 0 1 1 Pass)
-  -- K11: over the depth limit, depth 2
-  pub K11 : reported (presentAfter calls11) ≡ reporting 2 2 0 0 2 0 OverDepth
+  -- K11: pass, depth 1: the second gate is deeper and feeds no output (request 2; 01 had it over the depth limit)
+  pub K11 : reported (presentAfter calls11) ≡ reporting 2 2 0 0 1 0 Pass
   -- K12: wrong at input 1, output 0
   pub K12 : reported (presentAfter calls12) ≡ reporting 2 2 0 0 2 0 (wrong 1 0)
 

@@ -16,9 +16,10 @@ use Rattle.circuit.specs.declared.Refusal.the-variants.{TooShallow, NoRoom}
 use Rattle.circuit.specs.declared.Answer.{Answer}
 use Rattle.circuit.specs.declared.Answer.the-variants.{Done, Refused}
 use Rattle.circuit.specs.Gate.{bit, rowOn}
-use Rattle.circuit.specs.Lines.{Listing, gateAt, greatest, andStep, depthOf, andDepthOf, outputOn, anyOf, lines, listing}
+use Rattle.circuit.specs.Lines.{Listing, gateAt, andStep, andDepths, depthOf, andDepthOf, outputOn, anyOf, lines, listing}
 use Rattle.circuit.specs.Rules.{shaped}
 use Rattle.circuit.proofs.GateLaws.{bit-lt, bit-and, bit-above, differ-sum}
+use Rattle.circuit.proofs.LineLaws.{greatest-read}
 use Rattle.stored.specs.declared.Writing.{Writing}
 use Rattle.stored.specs.declared.Writing.the-variants.{Written, NotWritten}
 use Rattle.stored.specs.Stored.{stored}
@@ -167,13 +168,14 @@ module _ (n : ℕ) (ts : List ℕ) (D : ℕ) where
     no-and-depth : andDepthOf (built n ts D) ≡ 0
     unfolding built greedyCircuit
     no-and-depth =
-        ap greatest (ap (λ (l : List ℕ). lines andStep 0 l (gateAt (greedyCircuit n (inputs n) (within D ts))) (length (map xorGate (taken (inputs n) (within D ts))))) (flat n)
-        ∙ lines-whole (λ (l : Line). 0) andStep 0 refl (λ k g x y. refl) (inputs n) (taken (inputs n) (within D ts)))
-        ∙ zeros (run (inputs n) (taken (inputs n) (within D ts)))
+        let e = ap (λ (l : List ℕ). lines andStep 0 l (gateAt (greedyCircuit n (inputs n) (within D ts))) (length (map xorGate (taken (inputs n) (within D ts))))) (flat n)
+        ∙ lines-whole (λ (l : Line). 0) andStep 0 refl (λ k g x y. refl) (inputs n) (taken (inputs n) (within D ts)) in
+        omega (arith, greatest-read (andDepths n (gateAt (built n ts D)) (length (built n ts D .gates))) 0 (λ i. omega (arith, ap (λ (l : List ℕ). getD l i 0) e, zero-at (run (inputs n) (taken (inputs n) (within D ts))) i)) (built n ts D .outs))
       where
-        zeros : (ls : List Line) → greatest (map (λ (l : Line). 0) ls) ≡ 0
-        zeros [] = refl
-        zeros (l ∷ ls) = omega (arith, zeros ls)
+        zero-at : (ls : List Line) (i : ℕ) → _≡_ {A = ℕ} (getD (map (λ (l : Line). 0) ls) i 0) 0
+        zero-at [] i = refl
+        zero-at (l ∷ ls) zero = refl
+        zero-at (l ∷ ls) (suc i) = zero-at ls i
 
         flat : (n : ℕ) → replicate {A = ℕ} n 0 ≡ map (λ (l : Line). 0) (inputs n)
         flat n = ap (λ (k : ℕ). replicate {A = ℕ} k 0) (sym (inputs-length n)) ∙ level (inputs n)

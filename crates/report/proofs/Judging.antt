@@ -8,19 +8,22 @@ use native.Mathlib.Omega.{arith}
 use borrow.Author.Tests.{lt-ltb, le-ltb}
 use lib.Dec.{eqb, ltb}
 use lib.Pow.{pow-mono}
-use lib.ListN.{length, getD, take, replicate, length-map, length-replicate}
+use lib.ListN.{length, getD, take, length-map}
 use Rattle.circuit.specs.declared.Words.{Words}
 use Rattle.circuit.specs.declared.Tally.{Tally}
+use Rattle.circuit.specs.declared.Answer.the-variants.{Done}
 use Rattle.circuit.specs.declared.Refusal.the-variants.{NothingOpen}
 use Rattle.circuit.specs.Gate.{noWords, valueIn, tallyOf}
-use Rattle.circuit.specs.Lines.{Gate, gateAt, depthStep, andStep, lines, words, outputOn, depthOf, andDepthOf, greatest, padded}
-use Rattle.circuit.specs.Structs.{lineIn}
+use Rattle.circuit.specs.Lines.{Gate, Listing, gateAt, depths, andDepths, words, outputOn, overall, depthOf, andDepthOf, padded}
+use Rattle.circuit.specs.Rules.{listingAnswer}
+use Rattle.circuit.specs.Structs.{lineIn, held}
 use Rattle.circuit.specs.Sizes.{mostInputs, mostOutputs, mostGates, mostLines, mostValues}
-use Rattle.circuit.proofs.LineLaws.{place, lines-length}
+use Rattle.circuit.proofs.LineLaws.{place}
+use Rattle.circuit.proofs.Depths.{outs-listed, overall-padded}
 use Rattle.circuit.proofs.WordLaws.{words-values}
-use Rattle.circuit.proofs.Padding.{pad-read, padded-take}
+use Rattle.circuit.proofs.Padding.{pad-read, padded-length, padded-take}
 use Rattle.circuit.proofs.RuleLaws.{out-below, CircuitFits, circuit-fits}
-use Rattle.circuit.proofs.Listed.{line-kept}
+use Rattle.circuit.proofs.Listed.{line-kept, listed-held}
 use Rattle.targets.specs.Target.{isMatrix}
 use Rattle.targets.proofs.Wanting.{wanted-at}
 use Rattle.bench.specs.declared.Bench.{Bench}
@@ -151,6 +154,19 @@ module _ (s : State) (f : CircuitFits (isMatrix (s .target)) (s .circuit)) where
 
 -- ---- the report
 
+-- the greatest over the lines that the outputs of a bench name, of what is held for each line
+abbrev pub atOutputs : Bench → List ℕ → ℕ
+atOutputs b ls = overall (map lineIn (take (b .m) (b .outputs))) ls
+
+-- on the bench of a state, that is what the circuit as a whole has
+at-outputs : (s : State) → listingAnswer (isMatrix (s .target)) (s .circuit) ≡ Done → (ls : List ℕ) → atOutputs (fullBench s) (padded mostLines 0 ls) ≡ overall (s .circuit .outs) ls
+unfolding fullBench
+at-outputs s ok ls =
+    let c = s .circuit in
+    let within = padded-length mostOutputs 0 (c .outs) (circuit-fits (isMatrix (s .target)) c ok .shape .m-most) in
+    let named = outs-listed (held c) (omega (arith, within, circuit-fits (isMatrix (s .target)) c ok .shape .m-most)) ∙ ap (λ (l : Listing). l .outs) (listed-held (isMatrix (s .target)) c ok) in
+    ap (λ (os : List ℕ). overall os (padded mostLines 0 ls)) named ∙ overall-padded ls (c .outs) (mostLines - length ls)
+
 -- nothing is given where nothing is open
 pub not-given : (b : Bench) → openOn b ≡ false → ReportPromise b (NotGiven NothingOpen)
 not-given b o = when-shut (λ (p : Present). NotGiven NothingOpen ≡ reported p) b o (λ e. refl)
@@ -160,19 +176,16 @@ module _ (b : Bench) (counts : Tally) (depth ands : ℕ) (v : Verdict) where
   abbrev made : Reported
   made = Given (record { gates = b .g; counts = counts; depth = depth; «and_depth» = ands; verdict = v })
 
-  pub given : openOn b ≡ true → counts ≡ tallyOf (take (b .g) (b .kinds)) → depth ≡ greatest (take (b .n + b .g) (b .depths))
-      → ands ≡ greatest (take (b .n + b .g) (b .«and_depths»)) → v ≡ judged b depth ands → ReportPromise b made
+  pub given : openOn b ≡ true → counts ≡ tallyOf (take (b .g) (b .kinds)) → depth ≡ atOutputs b (b .depths) → ands ≡ atOutputs b (b .«and_depths»)
+      → v ≡ judged b depth ands → ReportPromise b made
   unfolding fullBench reportOf
   given o hc hd ha hv = when-open (λ (p : Present). made ≡ reported p) b o (λ s ok e.
       let c = s .circuit in
-      let n = c .inputs in
       let g = length (c .gates) in
       let kinds = map (λ (q : Gate). q .kind) (c .gates) in
       let fits = circuit-fits (isMatrix (s .target)) c (ok .circuit) in
-      let each : (step : ℕ → Gate → List ℕ → ℕ) → let l = lines step 0 (replicate n 0) (gateAt c) g in take (n + g) (padded mostLines 0 l) ≡ l =
-      λ step. padded-take mostLines 0 _ (n + g) (omega (arith, lines-length step 0 (replicate n 0) (gateAt c) g, length-replicate {A = ℕ} n 0)) in
       let k = hc ∙ ap (λ (x : Bench). tallyOf (take (x .g) (x .kinds))) e ∙ ap tallyOf (padded-take mostGates 0 kinds g (sym (length-map (c .gates) _))) in
-      let d = hd ∙ ap (λ (x : Bench). greatest (take (x .n + x .g) (x .depths))) e ∙ ap greatest (each depthStep) in
-      let a = ha ∙ ap (λ (x : Bench). greatest (take (x .n + x .g) (x .«and_depths»))) e ∙ ap greatest (each andStep) in
+      let d = hd ∙ ap (λ (x : Bench). atOutputs x (x .depths)) e ∙ at-outputs s (ok .circuit) (depths (c .inputs) (gateAt c) g) in
+      let a = ha ∙ ap (λ (x : Bench). atOutputs x (x .«and_depths»)) e ∙ at-outputs s (ok .circuit) (andDepths (c .inputs) (gateAt c) g) in
       let w = hv ∙ (λ i. judged (e i) (d i) (a i)) ∙ judged-is s fits in
       λ i. Given (record { gates = e i .g; counts = k i; depth = d i; «and_depth» = a i; verdict = w i }))

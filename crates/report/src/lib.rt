@@ -17,7 +17,7 @@ use bench::edits::is_standing;
 use circuit::NO_WORDS;
 use circuit::Refusal;
 use circuit::Words;
-use circuit::depth::greatest_of;
+use circuit::depth::overall_of;
 use circuit::gate;
 use circuit::line_index;
 use circuit::wide;
@@ -145,10 +145,10 @@ pub fn report(bench: Bench) -> Reported
         let kinds = bench.kinds;
         let depths = bench.depths;
         let and_depths = bench.and_depths;
-        let lines = n + g;
+        let outputs = bench.outputs;
         let counts = gate::tally(&kinds[..g]);
-        let depth = greatest_of(&depths[..lines]);
-        let and_depth = greatest_of(&and_depths[..lines]);
+        let depth = overall_of(&depths, &outputs[..m]);
+        let and_depth = overall_of(&and_depths, &outputs[..m]);
         let verdict = judge(bench, depth, and_depth);
         Reported::Given(Report {
             gates: g,

@@ -2,10 +2,10 @@
 use borrow.Author.Needs.{needs}
 use native.Mathlib.Omega.{arith}
 use mathlib.Core.Path.{_≡_, _∙_, sym}
-use Prim.Native.Nat.{_≤_, _+_}
+use Prim.Native.Nat.{_≤_}
 use lib.ListN.{length}
 use lib.Seq.{length-take-le}
-use Rattle.circuit.specs.Sizes.{mostGates, mostLines}
+use Rattle.circuit.specs.Sizes.{mostOutputs, mostGates}
 use Rattle.circuit.proofs.Shapes.{Shaped}
 use Rattle.bench.proofs.Stood.{standing-shaped}
 use Rattle.report.proofs.Judging.{given, not-given}
@@ -16,7 +16,7 @@ is-standing-requires : tie.Need-is-standing-requires
 is-standing-requires c κs = search needs
 
 -- the arrays' lengths
-long : (c : tie.Start) → let b = c .args .bench in (length (b .kinds) ≡ mostGates) × (length (b .depths) ≡ mostLines) × (length (b .«and_depths») ≡ mostLines)
+long : (c : tie.Start) → let b = c .args .bench in (length (b .kinds) ≡ mostGates) × (length (b .outputs) ≡ mostOutputs)
 long c = search needs
 
 -- what the test showed
@@ -26,50 +26,46 @@ ok c =
     standing-shaped (b .«is_open») (b .n) (b .m) (b .g) (sym (c .before .is-standing .ensures) ∙ c .if1 .taken)
 
 -- so the prefixes that are lent lie within the arrays
-within : (c : tie.Then1) → let b = c .before .before .args .bench in
-    (b .g ≤ length (b .kinds)) × (b .n + b .g ≤ length (b .depths)) × (b .n + b .g ≤ length (b .«and_depths»))
-within c = let l = long (c .before .before) in let o = ok c in (omega arith, omega arith, omega arith)
-
-add-lines : tie.Need-add-lines
-add-lines c = omega (arith, ok (c .before .before .before))
+within : (c : tie.Then1) → let b = c .before .before .args .bench in (b .g ≤ length (b .kinds)) × (b .m ≤ length (b .outputs))
+within c = let l = long (c .before .before) in let o = ok c in (omega arith, omega arith)
 
 array-share-prefix-kinds : tie.Need-array-share-prefix-kinds
-array-share-prefix-kinds c = within (c .before .before .before) .0
+array-share-prefix-kinds c = within (c .before .before .before .before) .0
 
 slice-aggregate-tally : tie.Need-slice-aggregate-tally
-slice-aggregate-tally c = sym (length-take-le _ _ (within (c .before .before .before .before) .0))
+slice-aggregate-tally c = sym (length-take-le _ _ (within (c .before .before .before .before .before) .0))
 
 tally-requires : tie.Need-tally-requires
 tally-requires c κs = search needs
 
-array-share-prefix-depths : tie.Need-array-share-prefix-depths
-array-share-prefix-depths c = within (c .before .before .before .before .before) .1
+array-share-prefix-outputs : tie.Need-array-share-prefix-outputs
+array-share-prefix-outputs c = within (c .before .before .before .before .before .before .before) .1
 
-slice-aggregate-greatest-of : tie.Need-slice-aggregate-greatest-of
-slice-aggregate-greatest-of c = sym (length-take-le _ _ (within (c .before .before .before .before .before .before) .1))
+slice-aggregate-overall-of : tie.Need-slice-aggregate-overall-of
+slice-aggregate-overall-of c = sym (length-take-le _ _ (within (c .before .before .before .before .before .before .before .before) .1))
 
-greatest-of-requires : tie.Need-greatest-of-requires
-greatest-of-requires c κs = search needs
+overall-of-requires : tie.Need-overall-of-requires
+overall-of-requires c κs = search needs
 
-array-share-prefix-and-depths : tie.Need-array-share-prefix-and-depths
-array-share-prefix-and-depths c = within (c .before .before .before .before .before .before .before) .2
+array-share-prefix-outputs-2 : tie.Need-array-share-prefix-outputs-2
+array-share-prefix-outputs-2 c = within (c .before .before .before .before .before .before .before .before .before .before) .1
 
-slice-aggregate-greatest-of-2 : tie.Need-slice-aggregate-greatest-of-2
-slice-aggregate-greatest-of-2 c = sym (length-take-le _ _ (within (c .before .before .before .before .before .before .before .before) .2))
+slice-aggregate-overall-of-2 : tie.Need-slice-aggregate-overall-of-2
+slice-aggregate-overall-of-2 c = sym (length-take-le _ _ (within (c .before .before .before .before .before .before .before .before .before .before .before) .1))
 
-greatest-of-requires-2 : tie.Need-greatest-of-requires-2
-greatest-of-requires-2 c κs = search needs
+overall-of-requires-2 : tie.Need-overall-of-requires-2
+overall-of-requires-2 c κs = search needs
 
 judge-requires : tie.Need-judge-requires
-judge-requires c κs = let o = ok (c .before .before .before .before .before .before .before .before .before) in (o .n-most, o .m-most)
+judge-requires c κs = let o = ok (c .before .before .before .before .before .before .before .before .before .before .before .before) in (o .n-most, o .m-most)
 
 returns : tie.Need-returns
 returns c =
     let a = c .before in
-    let d = a .before .before in
-    let t = d .before .before in
-    let o = t .before .before .before .before .before in
-    given (o .before .before .args .bench) _ _ _ _ (sym (o .before .is-standing .ensures) ∙ o .if1 .taken) (t .tally .ensures) (d .greatest-of .ensures) (a .greatest-of2 .ensures)
+    let d = a .before .before .before in
+    let t = d .before .before .before in
+    let o = t .before .before .before .before .before .before in
+    given (o .before .before .args .bench) _ _ _ _ (sym (o .before .is-standing .ensures) ∙ o .if1 .taken) (t .tally .ensures) (d .overall-of .ensures) (a .overall-of2 .ensures)
     (c .judge .ensures)
 
 returns-2 : tie.Need-returns-2
@@ -80,16 +76,15 @@ report-spec =
     tie.close
     (tie.spec
     is-standing-requires
-    add-lines
     array-share-prefix-kinds
     slice-aggregate-tally
     tally-requires
-    array-share-prefix-depths
-    slice-aggregate-greatest-of
-    greatest-of-requires
-    array-share-prefix-and-depths
-    slice-aggregate-greatest-of-2
-    greatest-of-requires-2
+    array-share-prefix-outputs
+    slice-aggregate-overall-of
+    overall-of-requires
+    array-share-prefix-outputs-2
+    slice-aggregate-overall-of-2
+    overall-of-requires-2
     judge-requires
     returns
     returns-2)
