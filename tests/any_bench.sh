@@ -3,4 +3,4 @@
 set -uo pipefail
 program=$(mktemp) || exit 1
 trap 'rm -f "$program"' EXIT
-cc -std=c11 -Wall -Wextra -Werror -O1 tests/any_bench.c -Ltarget/staticlib -llent -o "$program" && "$program"
+"${CC:-cc}" -std=c11 -Wall -Wextra -Werror -O1 tests/any_bench.c -Ltarget/staticlib -llent -o "$program" && .ci/x86-64 "$program"

@@ -1,12 +1,13 @@
 #!/usr/bin/env bash
 # The gate itself, in a small house of stubs: where all is well it passes, and with one thing broken it fails and names that.
-# A house has a copy of .ci/run, a tests/ of its own, and no tool on its PATH but its stubs and a few basic ones, so nothing
+# A house has a copy of .ci/, a tests/ of its own, and no tool on its PATH but its stubs and a few basic ones, so nothing
 # is proved here and no gate runs within a gate.
 set -uo pipefail
-gate=$PWD/.ci/run
+gate=$PWD/.ci
 scratch=$(mktemp -d) || exit 1
 trap 'rm -rf "$scratch"' EXIT
 status=0
+processor=x86_64
 
 mkdir "$scratch/basics"
 for tool in bash cp diff dirname grep mktemp rm sed tail tee; do
@@ -28,8 +29,8 @@ package() {
 # a house in the current folder; `rt ci` runs the stub rt-ci, and so on
 house() {
     local well='echo "test result: ok. 3 passed; 0 failed; 0 ignored"'
-    mkdir -p bin .ci bindings/c bindings/rust/examples tests
-    cp "$gate" .ci/run
+    mkdir -p bin bindings/c bindings/rust/examples tests
+    cp -r "$gate" .
     echo 'from C' >bindings/c/example.out
     echo 'from Rust' >bindings/rust/examples/morning.out
     echo 'exit 0' >tests/script.sh
@@ -47,6 +48,17 @@ house() {
     package compare "$well"
 }
 
+# a house on another processor: packages that are there, what they bring, and a test that would fail, left out there
+other_processor() {
+    processor=aarch64
+    stub dpkg 'echo /bin/rustc'
+    stub apt-get 'exit 1'
+    stub rt-doc 'echo docs/guide'
+    stub x86_64-linux-gnu-gcc 'exec cc "$@"'
+    stub qemu-x86_64 'exec "${@: -1}"'
+    echo 'exit 1' >tests/memory.sh
+}
+
 # says LINES COMMAND..: in a new house in which COMMAND broke something, the gate's failures and its last line are these, and
 # its exit status is 0 exactly where none failed
 says() {
@@ -54,7 +66,7 @@ says() {
     shift
     if [[ $expected == *', 0 failed' ]]; then wanted=0; fi
     cd "$(mktemp -d -p "$scratch")" && house && "$@" || exit 1
-    PATH=$PWD/bin:$scratch/basics "$BASH" .ci/run >log 2>&1
+    HOSTTYPE=$processor CC='' PATH=$PWD/bin:$scratch/basics "$BASH" .ci/run >log 2>&1
     ended=$?
     said=$({ grep '^FAILED' log; tail -n 1 log; } | paste -sd';')
     if [ "$said" != "$expected" ] || [ "$ended" != "$wanted" ]; then
@@ -94,6 +106,13 @@ says 'FAILED: no valgrind on the PATH;16 passed, 1 failed' rm bin/valgrind
 says 'FAILED: no cc on the PATH;FAILED: example in C;15 passed, 2 failed' rm bin/cc
 says 'FAILED: no rt on the PATH;FAILED: rt ci, exit status 127;'\
 'FAILED: layout of the sources;FAILED: static library for other languages;9 passed, 4 failed' rm bin/rt
-says 'FAILED: no cargo on the PATH;FAILED: example in Rust;'\
-"FAILED: cargo test in reference, exit status 127;$compare, exit status 127;9 passed, 4 failed" rm bin/cargo
+says 'FAILED: no cargo on the PATH;FAILED: cargo test in reference, exit status 127;'\
+"FAILED: example in Rust;$compare, exit status 127;9 passed, 4 failed" rm bin/cargo
+
+# without NAME: the house on another processor, where the tool NAME fails
+without() { other_processor && stub "$1" 'exit 1'; }
+says '17 passed, 0 failed' other_processor
+says 'FAILED: compilers for x86-64;16 passed, 1 failed' without dpkg
+says 'FAILED: example in C;16 passed, 1 failed' without x86_64-linux-gnu-gcc
+says 'FAILED: example in C;16 passed, 1 failed' without qemu-x86_64
 exit $status

@@ -11,9 +11,9 @@ blocks() { grep -cx "\`\`\`$1" README.md; }
 [ "$(blocks desk)" -ge 2 ] && [ "$(blocks equations)" -ge 2 ] && [ "$(blocks equations)" -eq "$(blocks answer)" ] || exit 1
 for n in $(seq "$(blocks desk)"); do
     session=$(block desk "$n")
-    grep '^> ' <<<"$session" | cut -c3- | target/bin/desk | diff - <(grep -v '^> ' <<<"$session") || status=1
+    grep '^> ' <<<"$session" | cut -c3- | .ci/x86-64 target/bin/desk | diff - <(grep -v '^> ' <<<"$session") || status=1
 done
 for n in $(seq "$(blocks answer)"); do
-    block equations "$n" | target/bin/equations | diff - <(block answer "$n") || status=1
+    block equations "$n" | .ci/x86-64 target/bin/equations | diff - <(block answer "$n") || status=1
 done
 exit $status
