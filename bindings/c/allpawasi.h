@@ -45,8 +45,8 @@ typedef struct {
     uint16_t lines[ALLPAWASI_LINES];
 } allpawasi_edit;
 
-/* refusal: 0, or why. verdict: 0 pass, 1 wrong (at input and output), 2 over the gate limit, 3 over the depth limit,
- * 4 over the AND depth limit. */
+/* refusal: 0, or why. depth and and_depth: the greatest over the lines that outputs name. verdict: 0 pass, 1 wrong (at input
+ * and output), 2 over the gate limit, 3 over the depth limit, 4 over the AND depth limit. */
 typedef struct {
     size_t refusal, gates, xors, nonlinear, nots, depth, and_depth, verdict, input, output;
 } allpawasi_figures;
@@ -63,6 +63,7 @@ size_t allpawasi_open_table(allpawasi_bench *bench, const uint8_t *bytes, size_t
                             uint8_t max_gates, uint8_t max_depth, uint8_t max_and_depth);
 
 allpawasi_edit allpawasi_replace_gate(allpawasi_bench *bench, size_t k, size_t kind, size_t a, size_t b);
+/* No line is examined again; the circuit's depths may be others. */
 allpawasi_edit allpawasi_point_output(allpawasi_bench *bench, size_t j, size_t line);
 allpawasi_edit allpawasi_change_entry(allpawasi_bench *bench, size_t i, size_t value);
 allpawasi_edit allpawasi_set_limits(allpawasi_bench *bench, uint8_t max_gates, uint8_t max_depth, uint8_t max_and_depth);

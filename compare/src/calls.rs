@@ -1,6 +1,6 @@
 //! Random calls on a bench, aimed at what is present on it: many keep its outputs right, and some are refused.
 
-use crate::circuits::{damaged, gate, idle_gates, sketch};
+use crate::circuits::{damaged, gate, idle_gates, pick, sketch};
 use crate::targets::{near_limits, near_target};
 use allpawasi::Limits;
 use reference::circuit::{write, Circuit, Gate, NOT};
@@ -67,11 +67,6 @@ pub fn concerning(rng: &mut Rng, c: &Circuit, matrix: bool) -> Call {
     }
 }
 
-/// One of a list, or none where it is empty.
-fn pick<T: Copy>(rng: &mut Rng, list: &[T]) -> Option<T> {
-    (!list.is_empty()).then(|| list[rng.below(list.len() as u64) as usize])
-}
-
 /// A number at or near an edge, or anything.
 fn near(rng: &mut Rng, edge: usize) -> usize {
     match rng.below(9) {
@@ -101,7 +96,7 @@ fn turned_gate(rng: &mut Rng, c: &Circuit) -> Option<[usize; 4]> {
     Some(if gate.kind == NOT { [k, kind, a, b] } else { [k, kind, b, a] })
 }
 
-/// A gate that no output reads made another one: depths may change, and the outputs do not.
+/// A gate that no output reads made another one: what is held of it may change, and the outputs and the circuit's depths do not.
 fn idle_gate(rng: &mut Rng, c: &Circuit, matrix: bool) -> Option<[usize; 4]> {
     let k = pick(rng, &idle_gates(c))?;
     let gate = gate(rng, c.n as usize + k, matrix);

@@ -4,6 +4,11 @@ use reference::circuit::{write, Circuit, Gate};
 use reference::examine::work;
 use reference::rng::Rng;
 
+/// One of a list, or none where it is empty.
+pub fn pick<T: Copy>(rng: &mut Rng, list: &[T]) -> Option<T> {
+    (!list.is_empty()).then(|| list[rng.below(list.len() as u64) as usize])
+}
+
 /// A sound circuit with these numbers of inputs, gates and outputs. `only`: no gate but XOR.
 pub fn circuit(rng: &mut Rng, n: u8, g: usize, m: usize, only: bool) -> Circuit {
     let gates = (0..g).map(|k| gate(rng, n as usize + k, only)).collect();
@@ -33,8 +38,11 @@ pub fn any_circuit(rng: &mut Rng, only: bool) -> Circuit {
 }
 
 /// A circuit to open: mostly an XOR program whose every output sums some input, for a matrix; mostly one of eight outputs at
-/// most, for a table.
+/// most, for a table; often one with trial gates.
 pub fn sketch(rng: &mut Rng, matrix: bool) -> Circuit {
+    if rng.once_in(4) {
+        return with_trial_gates(rng, matrix);
+    }
     if matrix {
         let only = !rng.once_in(12);
         let mut c = any_circuit(rng, only);
@@ -49,6 +57,32 @@ pub fn sketch(rng: &mut Rng, matrix: bool) -> Circuit {
     let g = if rng.once_in(10) { 248 } else { rng.below(40) as usize };
     let (n, m) = (rng.between(1, 8) as u8, rng.between(1, 8) as usize);
     circuit(rng, n, g, m, false)
+}
+
+/// How many gates and how many outputs, for a matrix or a table: often the most of either, and some gates always.
+pub fn size(rng: &mut Rng, matrix: bool) -> (usize, usize) {
+    let g = if rng.once_in(4) { 248 } else { rng.between(4, 60) };
+    let most = if matrix { 32 } else { 8 };
+    let m = if rng.once_in(4) { most } else { rng.between(1, most) };
+    (g as usize, m as usize)
+}
+
+/// A circuit whose outputs name none of its deepest lines, or none of those with the greatest AND depth; half of the time each
+/// gate reads the line before it, so that there are deep ones. No output is 0 on every input.
+pub fn with_trial_gates(rng: &mut Rng, matrix: bool) -> Circuit {
+    let (n, (g, m), chained) = (rng.between(1, 8) as u8, size(rng, matrix), rng.once_in(2));
+    let mut c = circuit(rng, n, g, m, matrix);
+    if chained {
+        c.gates.iter_mut().zip(n - 1..).for_each(|(gate, before)| gate.a = before);
+    }
+    let lines = work(&c);
+    let depths = if matrix || rng.once_in(2) { &lines.depths } else { &lines.and_depths };
+    let greatest = depths.iter().copied().max().unwrap_or(0);
+    let bound = rng.below(greatest.max(1).into()) as u8;
+    let may_be_named = |&line: &usize| depths[line] <= bound && lines.values[line] != [0; 4];
+    let named: Vec<usize> = (0..c.lines()).filter(may_be_named).collect();
+    c.outs.fill_with(|| pick(rng, &named).expect("the inputs are named") as u8);
+    c
 }
 
 /// Points each output at a line that is 0 on every input at an input instead: no row of a matrix is 0.

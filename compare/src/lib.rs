@@ -3,6 +3,7 @@
 
 pub mod calls;
 pub mod circuits;
+pub mod depths;
 pub mod edges;
 pub mod files;
 pub mod long_files;

@@ -4,7 +4,10 @@
 use std::collections::BTreeMap;
 use std::fmt;
 
+use crate::calls::Present;
 use allpawasi::Verdict;
+use reference::examine::{examine, work, Verdict as TheirVerdict};
+use reference::listing;
 
 /// The kinds of answer that are told apart.
 #[derive(Clone, Debug, PartialEq, Eq, PartialOrd, Ord)]
@@ -39,6 +42,11 @@ pub fn verdict(verdict: &Verdict) -> Kind {
     Kind::Says(name.to_string())
 }
 
+/// What a report left out, since no output names it: a line deeper than the circuit, one of a greater AND depth, and a verdict that
+/// such lines would have changed.
+pub const LEFT_OUT: [&str; 5] =
+    ["depth", "AND depth", "pass, not over-depth", "pass, not over-anddepth", "over-anddepth, not over-depth"];
+
 /// A distance that was found, or that there is none.
 pub fn gates(distance: &Option<u64>) -> Kind {
     Kind::Says(distance.map_or("none".to_string(), |gates| gates.to_string()))
@@ -56,6 +64,28 @@ impl Met {
     /// Counts an answer by what is said of it where the call is done, or by its refusal.
     pub fn answer<T>(&mut self, call: &'static str, answer: &Result<T, usize>, done: impl Fn(&T) -> Kind) {
         self.count(call, answer.as_ref().map_or_else(|number| Kind::Refused(*number), done));
+    }
+
+    /// Counts what a report of this leaves out.
+    pub fn left_out(&mut self, call: &'static str, (c, target, limits): &Present) {
+        let (lines, report) = (work(c), examine(c, target, limits));
+        let every: Vec<u8> = (0..c.lines()).map(|line| line as u8).collect();
+        let (depth, and_depth) = (lines.depth(&every), lines.and_depth(&every));
+        if depth > report.depth {
+            self.count(call, Kind::Says(LEFT_OUT[0].to_string()));
+        }
+        if and_depth > report.and_depth {
+            self.count(call, Kind::Says(LEFT_OUT[1].to_string()));
+        }
+        let over_all = match report.verdict {
+            TheirVerdict::Pass | TheirVerdict::OverAndDepth if depth > limits.depth => TheirVerdict::OverDepth,
+            TheirVerdict::Pass if and_depth > limits.and_depth => TheirVerdict::OverAndDepth,
+            verdict => verdict,
+        };
+        if over_all != report.verdict {
+            let words = [&report.verdict, &over_all].map(listing::verdict);
+            self.count(call, Kind::Says(words.join(", not ")));
+        }
     }
 
     fn times(&self, call: &str, kind: &Kind) -> usize {
@@ -106,7 +136,8 @@ impl Met {
         self.said_at_least(call, words, 1);
     }
 
-    fn said_at_least(&self, call: &str, words: &[&str], least: usize) {
+    /// The call said each of these so often at least.
+    pub fn said_at_least(&self, call: &str, words: &[&str], least: usize) {
         for word in words {
             let times = self.times(call, &Kind::Says(word.to_string()));
             assert!(times >= least, "{call} said {word} {times} times, not {least}");

@@ -66,7 +66,7 @@ impl Pair {
         match call {
             Call::Open(bytes, target, limits) => self.open(bytes, target, *limits),
             Call::Gate(numbers) => drop(self.replace_gate(*numbers)),
-            Call::Output([j, line]) => self.point_output(*j, *line),
+            Call::Output([j, line]) => drop(self.point_output(*j, *line)),
             Call::Entry([i, value]) => self.change_entry(*i, *value),
             Call::Limits(limits) => self.set_limits(*limits),
             Call::Store(length) => self.store(*length),
@@ -103,9 +103,11 @@ impl Pair {
         ours
     }
 
-    pub fn point_output(&mut self, j: usize, line: usize) {
+    /// The lines that were reworked, which are none, or the refusal.
+    pub fn point_output(&mut self, j: usize, line: usize) -> Result<Vec<u16>, usize> {
         let (ours, theirs) = (self.ours.point_output(j, line), self.theirs.point_output(j as u64, line as u64));
         self.same("output", [j, line], &ours, lines(theirs));
+        ours
     }
 
     pub fn change_entry(&mut self, i: usize, value: usize) {
@@ -135,6 +137,9 @@ impl Pair {
             Some((_, Target::Matrix(_), _)) => self.met.answer("report under a matrix", &ours, verdict),
             Some((_, Target::Table(_), _)) => self.met.answer("report under a table", &ours, verdict),
             None => {}
+        }
+        if let Some(present) = &self.theirs.present {
+            self.met.left_out("left out of a report", present);
         }
         self.store(1341);
         self.held();

@@ -43,20 +43,20 @@ fn limits(rng: &mut Rng, limits: &Limits) -> String {
 }
 
 /// A call on the bench, by its name and as a line.
-fn on_bench(rng: &mut Rng, present: Option<&Present>) -> (&'static str, String) {
-    match calls::call(rng, present) {
+fn on_bench(rng: &mut Rng, call: &Call) -> (&'static str, String) {
+    match call {
         Call::Open(bytes, target, three) => {
-            let (kind, list) = match &target {
+            let (kind, list) = match target {
                 Target::Matrix(rows) => ("matrix", rows),
                 Target::Table(entries) => ("table", entries),
             };
-            ("open", format!("open {} {kind} {} {}", hex(rng, &bytes), hex(rng, list), limits(rng, &three)))
+            ("open", format!("open {} {kind} {} {}", hex(rng, bytes), hex(rng, list), limits(rng, three)))
         }
-        Call::Gate(numbers) => ("gate", format!("gate {}", typed(rng, &numbers))),
-        Call::Output(numbers) => ("output", format!("output {}", typed(rng, &numbers))),
-        Call::Entry(numbers) => ("entry", format!("entry {}", typed(rng, &numbers))),
-        Call::Limits(three) => ("limits", format!("limits {}", limits(rng, &three))),
-        Call::Store(length) => ("store", format!("store {}", typed(rng, &[length]))),
+        Call::Gate(numbers) => ("gate", format!("gate {}", typed(rng, numbers))),
+        Call::Output(numbers) => ("output", format!("output {}", typed(rng, numbers))),
+        Call::Entry(numbers) => ("entry", format!("entry {}", typed(rng, numbers))),
+        Call::Limits(three) => ("limits", format!("limits {}", limits(rng, three))),
+        Call::Store(length) => ("store", format!("store {}", typed(rng, &[*length]))),
     }
 }
 
@@ -96,7 +96,10 @@ fn call(rng: &mut Rng, present: Option<&Present>) -> (&'static str, String) {
         21..=23 => ("build", build(rng)),
         24..=27 => ("distance", distance(rng)),
         28 | 29 => ("equations", equations(rng)),
-        _ => on_bench(rng, present),
+        _ => {
+            let call = calls::call(rng, present);
+            on_bench(rng, &call)
+        }
     }
 }
 
@@ -136,13 +139,36 @@ pub fn kind(answer: &str) -> Kind {
     }
 }
 
+/// What a line should be answered, counted by the call's name; of a report or a listing also what it leaves out.
+fn count(met: &mut Met, bench: &mut Bench, name: &'static str, line: &[u8]) {
+    met.count(name, kind(&desk::answer(bench, line)));
+    match (name, &bench.present) {
+        ("report", Some(present)) => met.left_out("left out of a report", present),
+        ("show", Some(present)) => met.left_out("left out of a show", present),
+        _ => {}
+    }
+}
+
+/// A session in which each of these calls is typed, and then a report and a listing are asked for.
+pub fn session(rng: &mut Rng, calls: &[Call], met: &mut Met) -> Vec<u8> {
+    let (mut out, mut bench) = (Vec::new(), Bench::new());
+    for call in calls {
+        for (name, line) in [on_bench(rng, call), ("report", "report".to_string()), ("show", "show".to_string())] {
+            count(met, &mut bench, name, line.as_bytes());
+            out.extend(line.into_bytes());
+            out.push(b'\n');
+        }
+    }
+    out
+}
+
 /// A script of so many lines; what each should be answered is counted. Some lines end in CR LF, and the last may lack its LF.
 pub fn script(rng: &mut Rng, lines: usize, met: &mut Met) -> Vec<u8> {
     let (mut out, mut bench) = (Vec::new(), Bench::new());
     for _ in 0..lines {
         let (name, sound) = call(rng, bench.present.as_ref());
         let (name, line) = if rng.once_in(6) { ("spoiled", spoiled(rng, sound)) } else { (name, sound.into_bytes()) };
-        met.count(name, kind(&desk::answer(&mut bench, &line)));
+        count(met, &mut bench, name, &line);
         out.extend(line);
         out.extend(if rng.once_in(9) { &b"\r\n"[..] } else { &b"\n"[..] });
     }

@@ -58,7 +58,7 @@ pub fn near_limits(rng: &mut Rng, c: &Circuit) -> Limits {
         return limits;
     }
     let lines = work(c);
-    let own = [c.gates.len() as u8, lines.depth(), lines.and_depth()];
+    let own = [c.gates.len() as u8, lines.depth(&c.outs), lines.and_depth(&c.outs)];
     let over = if own[2] == 0 { [0, 1, 3][rng.below(3) as usize] } else { [0, 1, 2, 2, 3][rng.below(5) as usize] };
     let places = [&mut limits.gates, &mut limits.depth, &mut limits.and_depth];
     for (at, place) in places.into_iter().enumerate().take(over + 1) {

@@ -5,8 +5,9 @@
 use allpawasi::distance;
 use compare::calls::{concerning, Call};
 use compare::circuits::{circuit, point_at_sums};
+use compare::depths::{play, pointings, trials};
 use compare::files::{damaged, file};
-use compare::met::{gates, Kind, Met};
+use compare::met::{gates, Kind, Met, LEFT_OUT};
 use compare::pair::{our_report, value, Pair};
 use compare::targets::{near_limits, near_target};
 use reference::circuit::write;
@@ -108,6 +109,24 @@ fn circuits_of_the_most_gates() {
     }
     pair.met.show("circuits of 248 gates");
     pair.met.verdicts();
+    pair.met.said_at_least("left out of a report", &LEFT_OUT, 20);
+}
+
+/// Circuits with trial gates, and outputs pointed to and fro between deep lines and shallow ones.
+#[test]
+fn depths_that_end_at_outputs() {
+    let (mut rng, mut pair) = (Rng::new(26), Pair::default());
+    for round in 0..240 {
+        let matrix = round % 3 == 0;
+        for call in trials(&mut rng, matrix).iter().chain(&pointings(&mut rng, matrix)) {
+            play(&mut pair, call);
+            as_worked_plainly(&pair);
+        }
+    }
+    pair.met.show("depths that end at outputs");
+    pair.met.said_at_least("left out of a report", &LEFT_OUT, 100);
+    pair.met.said_at_least("pointed: depth", &["greater", "less", "kept by another output"], 100);
+    pair.met.said_at_least("pointed: AND depth", &["greater", "less", "kept by another output"], 100);
 }
 
 /// Equation files of up to 2,000 bytes, as they are and damaged.

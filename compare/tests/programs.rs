@@ -1,13 +1,15 @@
 //! The linked programs beside the independent ones, in a stack of 1 MiB: random scripts and inputs, long lines, input that
 //! ends anywhere, bytes that mean nothing, and an output that nobody reads.
 
+use compare::depths::{pointings, trials};
 use compare::files::{damaged, file};
 use compare::long_files::{designers, worst};
-use compare::met::Met;
+use compare::met::{Met, LEFT_OUT};
 use compare::programs::{run, start};
-use compare::scripts::{kind, script};
+use compare::scripts::{kind, script, session};
+use reference::examine::work;
 use reference::rng::Rng;
-use reference::{desk, program};
+use reference::{builder, desk, program};
 use std::io::{Read, Write};
 
 /// The program writes what the independent one writes, and ends well.
@@ -32,6 +34,8 @@ fn whole_language(met: &Met) {
     met.done_and_refused("equations", &[1, 11, 15, 16, 17]);
     met.said("distance", &["none"]);
     met.said("spoiled", &["unreadable", "nothing"]);
+    met.said_at_least("left out of a report", &LEFT_OUT, 100);
+    met.said_at_least("left out of a show", &LEFT_OUT, 10);
 }
 
 #[test]
@@ -52,6 +56,23 @@ fn a_script_of_a_hundred_thousand_calls() {
     same("desk", &text, &desk::run(&text));
     met.show("a script of a hundred thousand calls");
     whole_language(&met);
+}
+
+/// Circuits with trial gates, and outputs pointed to and fro between deep lines and shallow ones, with a report and a listing after
+/// each call.
+#[test]
+fn depths_that_end_at_outputs() {
+    let (mut rng, mut met) = (Rng::new(17), Met::default());
+    for round in 0..150 {
+        let matrix = round % 3 == 0;
+        let mut calls = trials(&mut rng, matrix);
+        calls.extend(pointings(&mut rng, matrix));
+        let text = session(&mut rng, &calls, &mut met);
+        same("desk", &text, &desk::run(&text));
+    }
+    met.show("depths that end at outputs");
+    met.said_at_least("left out of a report", &LEFT_OUT, 100);
+    met.said_at_least("left out of a show", &LEFT_OUT, 100);
 }
 
 #[test]
@@ -117,6 +138,23 @@ fn random_matrices() {
         met.count("build", kind(&String::from_utf8_lossy(&expected)));
     }
     met.ends("the build program on random matrices", "build", &[1, 2, 8, 9, 10]);
+}
+
+/// Matrices whose program has a gate that nothing reads and that is deeper than every output: the first line leaves it out.
+#[test]
+fn built_deeper_than_the_outputs() {
+    for (d, rows) in [
+        (7, &[14, 51, 15, 12, 215, 197][..]),
+        (7, &[107, 15, 200, 176, 29, 13, 60, 68, 206, 166, 144, 234, 61, 4]),
+        (8, &[210, 166, 206, 95, 254, 245, 22, 239, 198, 236, 211, 73, 5, 121]),
+        (9, &[188, 13, 43, 86, 241, 41, 119, 73, 211, 118, 172, 230, 15, 109, 145, 208]),
+    ] {
+        let c = builder::build(8, rows, d.into()).expect("each row is in reach");
+        let lines = work(&c);
+        assert!(lines.depths.iter().any(|&depth| depth > lines.depth(&c.outs)), "rows {rows:?} D {d}");
+        let input = [&[8, rows.len() as u8, d], rows].concat();
+        same("build", &input, &program::build(&input));
+    }
 }
 
 #[test]

@@ -53,15 +53,20 @@ impl Lines {
         bit(&self.values[line], x)
     }
 
-    /// The circuit's depth: the greatest over all its lines.
-    pub fn depth(&self) -> u8 {
-        self.depths.iter().copied().max().unwrap_or(0)
+    /// The depth of a circuit with these lines and outputs.
+    pub fn depth(&self, outs: &[u8]) -> u8 {
+        greatest_named(&self.depths, outs)
     }
 
-    /// The circuit's AND depth: the greatest over all its lines.
-    pub fn and_depth(&self) -> u8 {
-        self.and_depths.iter().copied().max().unwrap_or(0)
+    /// The AND depth of a circuit with these lines and outputs.
+    pub fn and_depth(&self, outs: &[u8]) -> u8 {
+        greatest_named(&self.and_depths, outs)
     }
+}
+
+/// A depth ends at an output: the greatest over the lines that the outputs name.
+fn greatest_named(depths: &[u8], outs: &[u8]) -> u8 {
+    outs.iter().map(|&line| depths[line as usize]).max().unwrap_or(0)
 }
 
 impl Target {
@@ -218,7 +223,7 @@ pub fn examine(circuit: &Circuit, target: &Target, limits: &Limits) -> Report {
     let count =
         |counted: &dyn Fn(&Gate) -> bool| circuit.gates.iter().filter(|gate| counted(gate)).count() as u8;
     let gates = circuit.gates.len() as u8;
-    let (depth, and_depth) = (lines.depth(), lines.and_depth());
+    let (depth, and_depth) = (lines.depth(&circuit.outs), lines.and_depth(&circuit.outs));
     let verdict = match first_wrong(circuit, target, &lines) {
         Some((input, output)) => Verdict::Wrong { input, output },
         None if gates > limits.gates => Verdict::OverGates,

@@ -10,7 +10,7 @@ const LONGEST_FILE: usize = 65_535;
 pub fn build(input: &[u8]) -> Vec<u8> {
     let text = match built(input) {
         Ok(circuit) => {
-            let depth = examine::work(&circuit).depth();
+            let depth = examine::work(&circuit).depth(&circuit.outs);
             format!("{}\n{}", listing::counts(&circuit, depth), listing::body(&circuit))
         }
         Err(number) => format!("refused {number}\n"),
@@ -57,6 +57,13 @@ mod tests {
                     y0 = t0\ny1 = t1\ny2 = t2\n";
         assert_eq!(build(&[3, 3, 2, 3, 7, 6]), text.as_bytes());
         assert_eq!(build(&[1, 1, 0, 1]), b"inputs 1 outputs 1 gates 0 depth 0\ny0 = x0\n");
+    }
+
+    #[test]
+    fn prints_the_depth_of_the_outputs() {
+        // Its gate t3 is one deeper than any output, and nothing reads it.
+        let text = build(&[8, 6, 7, 14, 51, 15, 12, 215, 197]);
+        assert!(text.starts_with(b"inputs 8 outputs 6 gates 11 depth 3\n"));
     }
 
     #[test]

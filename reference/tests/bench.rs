@@ -80,6 +80,51 @@ fn matrix_reports_agree_with_plain_ones() {
 }
 
 #[test]
+fn trial_gates_change_no_depth() {
+    let mut rng = Rng::new(14);
+    let (mut deeper, mut deeper_in_ands) = (0, 0);
+    for _ in 0..400 {
+        let (n, m, g) = (rng.between(1, 6), rng.between(1, 8), rng.below(60));
+        let circuit = random_circuit(&mut rng, n, m, g, false);
+        let mut more = circuit.clone();
+        more.gates.extend((g..g + rng.between(1, 60)).map(|k| random_gate(&mut rng, n + k, false)));
+        let (target, limits) = (plain::target_met(&circuit, false), random_limits(&mut rng));
+        let limits = Limits { gates: 120, ..limits };
+        let [before, after] = [&circuit, &more].map(|c| examine(c, &target, &limits));
+        assert_eq!((after.depth, after.and_depth), (before.depth, before.and_depth));
+        assert_eq!(after.verdict, before.verdict);
+        let lines = work(&more);
+        deeper += lines.depths.iter().any(|&depth| depth > after.depth) as usize;
+        deeper_in_ands += lines.and_depths.iter().any(|&depth| depth > after.and_depth) as usize;
+    }
+    assert!(deeper > 200 && deeper_in_ands > 200, "{deeper} {deeper_in_ands}");
+}
+
+#[test]
+fn pointing_an_output_moves_the_depths() {
+    // Line 1 is AND(0, 0), line 2 AND(1, 1), line 3 the NOT of line 2.
+    let stored = b"SH\x01\x02\x03GT\x02\x00\x00GT\x02\x01\x01GT\x06\x02\x00OP\x00OP\x00";
+    let mut bench = Bench::new();
+    bench.open(stored, Target::Table(vec![0, 3]), limits(3, 1, 1)).unwrap();
+    let held = bench.held();
+    for (j, line, depth, and_depth, verdict) in [
+        (0, 0, 0, 0, Verdict::Pass),
+        (0, 2, 2, 2, Verdict::OverDepth),
+        (1, 1, 2, 2, Verdict::OverDepth),
+        (0, 1, 1, 1, Verdict::Pass),
+        (1, 2, 2, 2, Verdict::OverDepth),
+        (0, 0, 2, 2, Verdict::OverDepth),
+        (1, 3, 3, 2, Verdict::Wrong { input: 0, output: 1 }),
+        (1, 0, 0, 0, Verdict::Pass),
+    ] {
+        assert_eq!(bench.point_output(j, line), Ok(vec![]));
+        let report = bench.report().unwrap();
+        assert_eq!((report.depth, report.and_depth, report.verdict), (depth, and_depth, verdict));
+        assert_eq!(bench.held(), held);
+    }
+}
+
+#[test]
 fn edits_rework_the_readers_and_nothing_else_changes() {
     let mut rng = Rng::new(13);
     for _ in 0..400 {

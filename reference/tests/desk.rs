@@ -42,7 +42,7 @@ fn shows_and_holds() {
                  47540608004f5000 table 0001000100010001 9 9 9\nshow\nheld\n";
     assert_eq!(
         answers(kinds),
-        "opened\ninputs 3 outputs 1 gates 7 depth 2 anddepth 1\nt0 = x0 ^ x1\nt1 = ~(x0 ^ x1)\n\
+        "opened\ninputs 3 outputs 1 gates 7 depth 0 anddepth 0\nt0 = x0 ^ x1\nt1 = ~(x0 ^ x1)\n\
          t2 = x0 & x1\nt3 = ~(x0 & x1)\nt4 = x0 | x1\nt5 = ~(x0 | x1)\nt6 = ~t5\ny0 = x0\npass\n\
          held 10 0:0:0:aa 1:0:0:cc 2:0:0:f0 3:1:0:66 4:1:0:99 5:1:1:88 6:1:1:77 7:1:1:ee 8:1:1:11 9:2:1:ee\n"
     );
@@ -50,6 +50,17 @@ fn shows_and_holds() {
         "open 534804010047540000014f5003 matrix 08 0 0 0\nopen 53480401004F5003 matrix 08 0 0 0\nheld\n",
     );
     assert_eq!(four, "refused 2\nopened\nheld 4 0:0:0:aaaa 1:0:0:cccc 2:0:0:f0f0 3:0:0:00ff\n");
+}
+
+#[test]
+fn depths_end_at_the_outputs() {
+    assert_eq!(
+        on_open("output 0 0\nreport\nshow\nheld\noutput 0 2\nreport"),
+        "reworked 0\nreport gates 1 xor 0 nonlinear 1 not 0 depth 0 anddepth 0 wrong 1 0\n\
+         inputs 2 outputs 1 gates 1 depth 0 anddepth 0\nt0 = x0 & x1\ny0 = x0\nwrong 1 0\n\
+         held 3 0:0:0:0a 1:0:0:0c 2:1:1:08\nreworked 0\n\
+         report gates 1 xor 0 nonlinear 1 not 0 depth 1 anddepth 1 pass\n"
+    );
 }
 
 #[test]

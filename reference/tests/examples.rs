@@ -75,10 +75,11 @@ fn k11_and_k12_matrix() {
     let stored = circuit::write(&xors(2, &[(0, 1), (0, 2)], &[2]));
     assert_eq!(bench.open(&stored, Target::Matrix(vec![3]), limits(2, 1, 0)), Ok(()));
     let report = bench.report().unwrap();
-    assert_eq!((report.verdict, report.depth), (Verdict::OverDepth, 2));
+    assert_eq!((report.verdict, report.depth), (Verdict::Pass, 1));
 
     assert_eq!(bench.point_output(0, 3), Ok(vec![]));
-    assert_eq!(bench.report().unwrap().verdict, Verdict::Wrong { input: 1, output: 0 });
+    let report = bench.report().unwrap();
+    assert_eq!((report.verdict, report.depth), (Verdict::Wrong { input: 1, output: 0 }, 2));
 }
 
 #[test]
@@ -100,7 +101,7 @@ fn edge_of_the_gate_count() {
 #[test]
 fn edges_of_depth_and_outputs() {
     let full = build(8, &[255], 3).unwrap();
-    assert_eq!((full.gates.len(), work(&full).depth()), (7, 3));
+    assert_eq!((full.gates.len(), work(&full).depth(&full.outs)), (7, 3));
     assert_eq!(build(8, &[255], 2), Err(10));
 
     let nine = circuit::write(&xors(1, &[], &[0; 9]));

@@ -32,6 +32,7 @@ pub enum Verdict {
     Pass,
 }
 
+/// Both depths are the greatest over the lines that outputs name; gates that feed nothing count among the gates alone.
 #[derive(Clone, Copy, Debug, PartialEq, Eq)]
 pub struct Report {
     pub gates: usize,
@@ -73,7 +74,7 @@ impl Bench {
         reworked(raw::replace_gate(&mut self.0, k, kind, a, b))
     }
 
-    /// Points output j at a line.
+    /// Points output j at a line. No line is examined again; the circuit's depths may be others.
     pub fn point_output(&mut self, j: usize, line: usize) -> Result<Vec<u16>, Refusal> {
         reworked(raw::point_output(&mut self.0, j, line))
     }

@@ -39,6 +39,17 @@ pub fn depths(circuit: &Circuit) -> Vec<(u8, u8)> {
     depths
 }
 
+/// The depth and the AND depth of a circuit, output by output: a line that no output names adds nothing.
+pub fn circuit_depths(circuit: &Circuit) -> (u8, u8) {
+    let depths = depths(circuit);
+    let mut greatest = (0, 0);
+    for &line in &circuit.outs {
+        let (depth, and_depth) = depths[line as usize];
+        greatest = (depth.max(greatest.0), and_depth.max(greatest.1));
+    }
+    greatest
+}
+
 /// The target that a circuit meets: its outputs on every input value, or the inputs summed into each
 /// output of an XOR program, which are those that alone make it 1. A table has eight outputs at most.
 pub fn target_met(circuit: &Circuit, matrix: bool) -> Target {
@@ -75,9 +86,7 @@ fn first_wrong(circuit: &Circuit, target: &Target) -> Option<Verdict> {
 
 /// The whole report.
 pub fn examine(circuit: &Circuit, target: &Target, limits: &Limits) -> Report {
-    let depths = depths(circuit);
-    let depth = depths.iter().map(|line| line.0).max().unwrap_or(0);
-    let and_depth = depths.iter().map(|line| line.1).max().unwrap_or(0);
+    let (depth, and_depth) = circuit_depths(circuit);
     let count = |kinds: std::ops::RangeInclusive<u8>| {
         circuit.gates.iter().filter(|gate| kinds.contains(&gate.kind)).count() as u8
     };
