@@ -11,10 +11,11 @@ use lib.Bits.{bitXor}
 use lib.Dec.{leb, eqb}
 use lib.ListN.{length, getD, drop, drop-of-length-le}
 use Rattle.circuit.proofs.Depths.{deeper-is}
+use Rattle.circuit.proofs.Lists.{drop-at-next}
 use Rattle.distance.specs.Base.{Line, baseOf, Xor, xor, made, Shallow}
 use Rattle.builder.specs.Rule.{Row, row, away, distances, sum, squares, makes, firstIn, firstPair, immediate, Best, best, better, scored, consider, alongLine, allPairs, bestPair, nextGate}
 use Rattle.builder.specs.Kept.{rowsOf}
-use Rattle.builder.proofs.Lists.{made-at, drop-at-next, rows-at, rows-length}
+use Rattle.builder.proofs.Lists.{made-at, rows-at, rows-length}
 
 -- ---- one pair against the best so far
 module _ (ls : List Line) (after : Xor → List ℕ) (top : ℕ) (g : Xor) (b : Best) where

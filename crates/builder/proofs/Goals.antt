@@ -9,13 +9,14 @@ use lib.Seq.{length-take-le, take-length}
 use Rattle.circuit.specs.Lines.{greatest, padded}
 use Rattle.circuit.specs.Sizes.{mostOutputs}
 use Rattle.circuit.proofs.Padding.{padded-none, padded-put}
+use Rattle.circuit.proofs.Lists.{drop-at-next}
 use Rattle.distance.specs.Base.{Line, Xor, made, Small}
 use Rattle.distance.specs.Table.{costAt}
 use Rattle.distance.proofs.Entries.{cost-is}
 use Rattle.builder.specs.Rule.{row, away, distances, sum, squares, distancesAfter}
 use Rattle.builder.specs.Kept.{SoundRow, SoundRows, rowsOf, Held, nextGap, nextGaps, misses, missed, added, goalsAfter, goalsWith, toGo, placeOf, roomOf, lowOf, Aimed, Goals}
 use Rattle.builder.proofs.Lookup.{look-made, look-up, misses-le}
-use Rattle.builder.proofs.Lists.{drop-at-next, take-next}
+use Rattle.builder.proofs.Lists.{take-next}
 
 -- ---- sums over the goals, from a place on
 module _ (h : List ℕ) (m c : ℕ) where

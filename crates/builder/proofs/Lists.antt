@@ -5,22 +5,12 @@ use Prim.Native.Nat.{ℕ, zero, suc, _+_, _≤_, _<_, max}
 use native.Mathlib.Numerals.{add-one}
 use native.Mathlib.Omega.{arith}
 use lib.Bits.{bitXor}
-use lib.ListN.{length, getD, take, drop}
-use lib.Seq.{take-suc, drop-cons}
+use lib.ListN.{length, getD, take}
+use lib.Seq.{take-suc}
 use Rattle.circuit.specs.Lines.{greatest}
 use Rattle.distance.specs.Base.{Line, line, baseOf, none, xor, made, Small}
 use Rattle.builder.specs.Rule.{Row, row}
 use Rattle.builder.specs.Kept.{rowsOf}
-
--- what stands at a place of a list that a map made
-pub map-at : {A : Type 0} (f : A → ℕ) (l : List A) (d : A) (i : ℕ) → i < length l → getD (map f l) i 0 ≡ f (getD l i d)
-map-at f [] d i h = absurd (omega arith)
-map-at f (x ∷ l) d zero h = refl
-map-at f (x ∷ l) d (suc i) h = map-at f l d i (omega arith)
-
--- a list that is dropped up to a place begins with what stands there
-pub drop-at-next : {A : Type 0} (l : List A) (i : ℕ) (d : A) → i < length l → drop i l ≡ getD l i d ∷ drop (i + 1) l
-drop-at-next {A} l i d h = drop-cons l i d h ∙ ap (λ (x : ℕ). getD l i d ∷ drop x l) (sym (add-one i))
 
 -- one element more is taken
 pub take-next : {A : Type 0} (l : List A) (i : ℕ) (d : A) → i < length l → take (i + 1) l ≡ take i l ++ (getD l i d ∷ [])

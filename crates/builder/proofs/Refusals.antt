@@ -15,10 +15,10 @@ use Rattle.circuit.specs.declared.Refusal.the-variants.{Shape, Target, TooDeep,
 use Rattle.circuit.specs.Lines.{anyOf}
 use Rattle.circuit.specs.Rules.{shaped}
 use Rattle.circuit.proofs.Shapes.{past, shape-is}
+use Rattle.circuit.proofs.Lists.{drop-at-next}
 use Rattle.distance.specs.Base.{weight}
 use Rattle.builder.specs.Call.{badRow, tooHeavy, refusal}
 use Rattle.builder.specs.Kept.{Fit}
-use Rattle.builder.proofs.Lists.{drop-at-next}
 
 -- ---- whether a test holds of some entry, from a place on
 module _ (f : ℕ → Bool) (xs : List ℕ) (i : ℕ) where

@@ -15,6 +15,7 @@ use Rattle.circuit.specs.Rules.{shaped, gateAnswer, outAnswer, gatesAnswer, out
 use Rattle.circuit.proofs.LineLaws.{greatest-read}
 use Rattle.circuit.proofs.ParityLaws.{row-none}
 use Rattle.circuit.proofs.RuleLaws.{two-fit}
+use Rattle.circuit.proofs.Lists.{map-at}
 use Rattle.distance.specs.Base.{Line, line, none, Xor, made, run, Reads, Makes, Small, inputs, weight}
 use Rattle.distance.specs.Distance.{gates}
 use Rattle.distance.proofs.Tests.{both-cases}
@@ -26,7 +27,6 @@ use Rattle.builder.specs.Matrix.{Computes}
 use Rattle.builder.specs.Kept.{SoundRow, SoundRows, Alive, Fit}
 use Rattle.builder.proofs.Reach.{reach-fewest}
 use Rattle.builder.proofs.Ends.{Within, within-snoc, Reached, enough}
-use Rattle.builder.proofs.Lists.{map-at}
 use Rattle.builder.proofs.Refusals.{Accepted, fit, any-some, refused-shallow, refused-not}
 use Rattle.builder.proofs.Begin.{rights, first-alive, first-sound, first-sum, first-little, inputs-length}
 use Rattle.builder.proofs.Promise.{built-shaped, built-gates}

@@ -15,6 +15,7 @@ use Rattle.circuit.specs.Sizes.{mostOutputs, mostGates, mostLines}
 use Rattle.circuit.proofs.Upto.{map-snoc}
 use Rattle.circuit.proofs.Depths.{deeper-is}
 use Rattle.circuit.proofs.Padding.{padded-length, padded-take, padded-put}
+use Rattle.circuit.proofs.Lists.{map-at}
 use Rattle.distance.specs.Base.{Line, line, baseOf, none, Xor, xor, made, run, Small, Shallow}
 use Rattle.distance.specs.Table.{costAt, endOf, TakenIn}
 use Rattle.distance.proofs.Entries.{cost-is}
@@ -26,7 +27,7 @@ use Rattle.builder.proofs.Reach.{small-get, small-made, away-lt}
 use Rattle.builder.proofs.Ends.{Less, next-less, alive-more}
 use Rattle.builder.proofs.Goals.{next-distances, next-falls}
 use Rattle.builder.proofs.KeptUp.{held-more, cost-le}
-use Rattle.builder.proofs.Lists.{lines-length, lines-get, lines-snoc, rows-length, rows-at, map-at, greatest-below}
+use Rattle.builder.proofs.Lists.{lines-length, lines-get, lines-snoc, rows-length, rows-at, greatest-below}
 
 -- ---- the row's lowest line
 module _ (ms ds : List ℕ) (r : Row) (i : ℕ) (l : length ms ≡ length ds) where

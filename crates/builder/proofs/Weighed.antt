@@ -9,12 +9,13 @@ use lib.ListN.{length, getD, take}
 use Rattle.circuit.specs.Lines.{greatest}
 use Rattle.circuit.specs.Sizes.{mostOutputs}
 use Rattle.circuit.proofs.Padding.{padded-take}
+use Rattle.circuit.proofs.Lists.{map-at}
 use Rattle.distance.specs.Base.{Line, baseOf, Xor, xor, made, Shallow}
 use Rattle.builder.specs.Rule.{Row, row, away, distances, sum, squares, deepest, Best, best, start, better, consider, allPairs, distancesAfter, bestPair}
 use Rattle.builder.specs.Kept.{SoundRow, rowsOf, goalsAfter, goalsWith, toGo, placeOf, roomOf, lowOf, Goals, Aimed, Choosing, Weighing}
 use Rattle.builder.proofs.Reach.{away-lt}
 use Rattle.builder.proofs.Goals.{Missed, Alike, alike, are-goals}
-use Rattle.builder.proofs.Lists.{made-at, lines-length, lines-small, rows-length, rows-at, rows-limits, map-at, greatest-below}
+use Rattle.builder.proofs.Lists.{made-at, lines-length, lines-small, rows-length, rows-at, rows-limits, greatest-below}
 use Rattle.builder.proofs.Choice.{depth-at, consider-deep, consider-over, consider-done, same-pairs}
 
 -- the goals' distances sum to little

@@ -1,22 +1,22 @@
 -- A struct made from a circuit stands for that circuit, gate by gate. Assumes nothing.
 use mathlib.Core.Path.{_≡_, refl, ap, _∙_, sym}
-use mathlib.Core.List.{List, map}
-use Prim.Native.Nat.{ℕ, _<_, _≤_, _-_, _+_}
+use mathlib.Core.List.{List, [], _∷_, _++_, map}
+use Prim.Native.Nat.{ℕ, suc, _<_, _≤_, _-_, _+_, max}
 use mathlib.Core.Bool.{Bool}
 use mathlib.Core.Logic.{⊎-elim}
 use native.Mathlib.Nat.{mod-eq-of-lt}
 use native.Mathlib.Omega.{arith}
-use lib.ListN.{length, getD, List·getD-map, List·getD-eq-default}
+use lib.ListN.{length, getD, set, length-append, length-map, List·getD-map, List·getD-eq-default}
 use Rattle.circuit.specs.declared.Circuit.{Circuit}
 use Rattle.circuit.specs.declared.Answer.the-variants.{Done}
 use Rattle.circuit.specs.Sizes.{mostOutputs, mostGates, mostLines}
-use Rattle.circuit.specs.Lines.{Gate, Listing, gate, noGate, listing, gateAt, upto}
-use Rattle.circuit.specs.Structs.{column, lineIn, held, gateOf, outOf, listed}
+use Rattle.circuit.specs.Lines.{Gate, Listing, gate, noGate, listing, gateAt, withMore, upto, padded}
+use Rattle.circuit.specs.Structs.{column, lineIn, held, putGate, gateOf, outOf, listed}
 use Rattle.circuit.specs.Rules.{listingAnswer}
 use Rattle.circuit.proofs.RuleLaws.{gate-fits, out-below, CircuitFits, circuit-fits}
 use Rattle.circuit.proofs.LineLaws.{place}
-use Rattle.circuit.proofs.Padding.{pad-read}
-use Rattle.circuit.proofs.Upto.{upto-same, upto-all, upto-at}
+use Rattle.circuit.proofs.Padding.{pad-read, padded-put}
+use Rattle.circuit.proofs.Upto.{upto-same, upto-all, upto-at, map-snoc}
 
 -- gate k of the circuit that a struct stands for
 pub gate-listed : (c : Circuit) (k : ℕ) → k < c .g → gateAt (listed c) k ≡ gateOf c k
@@ -25,6 +25,21 @@ gate-listed c k h = upto-at (gateOf c) noGate (c .g) k h
 -- an entry of a column is the gate's field; past the last gate it is that of no gate
 pub column-read : (f : Gate → ℕ) → f noGate ≡ 0 → (qs : List Gate) (k : ℕ) → getD (column f qs) k 0 ≡ f (getD qs k noGate)
 column-read f e qs k = pad-read (map f qs) (mostGates - length (map f qs)) k 0 ∙ ap (getD (map f qs) k) (sym e) ∙ List·getD-map f qs k noGate
+
+-- one gate more is stored in a column,
+pub column-put : (f : Gate → ℕ) (qs : List Gate) (q : Gate) → length qs < mostGates → set (column f qs) (length qs) (f q) ≡ column f (qs ++ (q ∷ []))
+column-put f qs q h = padded-put mostGates 0 (map f qs) (length qs) (f q) (sym (length-map qs f)) h ∙ ap (padded mostGates 0) (sym (map-snoc f qs q))
+
+-- and in a struct
+pub held-more : (c : Listing) (q : Gate) → length (c .gates) < mostGates
+    → putGate (held c) (length (c .gates)) (q .kind) (q .left) (q .right) ≡ held (withMore c q)
+held-more c q h =
+    let qs = c .gates in
+    let k = column-put (λ (p : Gate). p .kind) qs q h in
+    let a = column-put (λ (p : Gate). p .left) qs q h in
+    let b = column-put (λ (p : Gate). p .right) qs q h in
+    let g : max (length qs) (suc (length qs)) ≡ length (qs ++ (q ∷ [])) = omega (arith, length-append qs (q ∷ [])) in
+    λ i. record { n = c .inputs; m = length (c .outs); g = g i; kinds = k i; left = a i; right = b i; outputs = padded mostOutputs 0 (c .outs) }
 
 -- a line number below the most is read as it is
 pub line-kept : (x : ℕ) → x < mostLines → lineIn x ≡ x

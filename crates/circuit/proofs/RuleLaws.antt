@@ -1,12 +1,12 @@
 -- What an accepted gate, output and circuit shows; all of them, and one by one. Assumes nothing.
 use mathlib.Core.Path.{_≡_, refl, ap, ap₂, _∙_, sym, subst}
-use mathlib.Core.Bool.{Bool, true, false, not, _&&_, _||_, true≢false}
+use mathlib.Core.Bool.{Bool, true, false, not, _&&_, _||_, and-true, true≢false}
 use mathlib.Core.List.{List, [], _∷_}
 use Prim.Native.Nat.{ℕ, zero, suc, _≤_, _<_, _+_}
 use native.Mathlib.Omega.{arith}
 use lib.Dec.{leb, ltb, eqb}
 use lib.ListN.{length, getD}
-use borrow.Author.Tests.{leb-true, ltb-true, eqb-true}
+use borrow.Author.Tests.{leb-true, ltb-true, eqb-true, lt-ltb}
 use Rattle.circuit.specs.declared.Answer.the-variants.{Done}
 use Rattle.circuit.specs.declared.Refusal.the-variants.{Shape, UnknownKind, Operand, NotXor, NoLine}
 use Rattle.circuit.specs.Lines.{Gate, Listing, noGate}
@@ -17,11 +17,6 @@ use Rattle.circuit.proofs.Operands.{reads-two, reads-one, unread-two, u
 use Rattle.circuit.proofs.Shapes.{Shaped, shape-is, past, both, then-done}
 
 -- ---- one gate that is accepted
-
--- a test and nothing more
-and-true : (t : Bool) → (t && true) ≡ t
-and-true true = refl
-and-true false = refl
 
 -- the operands of a gate of two
 pub two-fit : (line : ℕ) (q : Gate) → q .kind ≤ 5 → operandsFit line q ≡ (ltb (q .left) line && ltb (q .right) line)
@@ -114,6 +109,10 @@ outs-all count (o ∷ os) h = ap₂ andThen (h 0 (omega arith)) (outs-all count 
 pub out-below : (count line : ℕ) → outAnswer count line ≡ Done → line < count
 unfolding outAnswer
 out-below count line h = ltb-true line count (past (ltb line count) NoLine h .0)
+
+pub out-there : (count line : ℕ) → line < count → outAnswer count line ≡ Done
+unfolding outAnswer
+out-there count line h = ap (λ (t : Bool). unless t NoLine Done) (lt-ltb line count h)
 
 -- ---- a circuit that is accepted
 

@@ -6,9 +6,10 @@ use Prim.Native.Nat.{ℕ, zero, suc, _≤_, _<_, _+_}
 use native.Mathlib.Nat.{eq-or-lt-of-le}
 use native.Mathlib.Numerals.{add-one}
 use native.Mathlib.Omega.{arith}
-use lib.ListN.{length, getD, take, length-append, List·getD-append}
+use lib.ListN.{length, getD, set, take, length-append, List·getD-append}
 use lib.Seq.{getD-at, take-suc, take-length}
-use Rattle.circuit.specs.Lines.{upto}
+use Rattle.circuit.specs.Lines.{upto, padded}
+use Rattle.circuit.proofs.Padding.{padded-put}
 
 -- one more
 pub upto-suc : {A : Type 0} (f : ℕ → A) (j : ℕ) → upto f (j + 1) ≡ upto f j ++ (f j ∷ [])
@@ -52,3 +53,8 @@ pub map-upto : {A B : Type 0} (f : A → B) (h : ℕ → A) (j : ℕ) → map f 
 unfolding upto
 map-upto f h zero = refl
 map-upto {B} f h (suc j) = map-snoc f (upto h j) (h j) ∙ ap (λ (l : List B). l ++ (f (h j) ∷ [])) (map-upto f h j)
+
+-- f 0, f 1, .. in an array: one more is stored
+pub upto-put : {A : Type 0} (cap : ℕ) (d : A) (f : ℕ → A) (i : ℕ) (v : A) → v ≡ f i → i < cap → set (padded cap d (upto f i)) i v ≡ padded cap d (upto f (i + 1))
+upto-put {A} cap d f i v e h =
+    padded-put cap d (upto f i) i v (sym (upto-length f i)) h ∙ ap (λ (x : A). padded cap d (upto f i ++ (x ∷ []))) e ∙ ap (padded cap d) (sym (upto-suc f i))

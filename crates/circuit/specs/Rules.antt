@@ -5,7 +5,7 @@ use Prim.Native.Nat.{ℕ, suc, _+_}
 use lib.Dec.{leb, ltb, eqb}
 use lib.ListN.{length}
 use Rattle.circuit.specs.declared.Refusal.{Refusal}
-use Rattle.circuit.specs.declared.Refusal.the-variants.{Shape, Length, Mark, UnknownKind, Operand, NoLine, NotXor, Target, TooDeep, TooShallow, NoRoom, NotThere, NothingOpen}
+use Rattle.circuit.specs.declared.Refusal.the-variants.{Shape, Length, Mark, UnknownKind, Operand, NoLine, NotXor, Target, TooDeep, TooShallow, NoRoom, NotThere, NothingOpen, Full}
 use Rattle.circuit.specs.declared.Answer.{Answer}
 use Rattle.circuit.specs.declared.Answer.the-variants.{Done, Refused}
 use Rattle.circuit.specs.Sizes.{mostInputs, mostOutputs, mostGates}
@@ -27,6 +27,7 @@ refusalNo TooShallow = 10
 refusalNo NoRoom = 11
 refusalNo NotThere = 12
 refusalNo NothingOpen = 13
+refusalNo Full = 18
 
 -- the number of an answer: 0 where nothing is refused
 abbrev pub answerNo : Answer → ℕ

@@ -1,6 +1,6 @@
 -- How the code holds a circuit, and the circuit that a struct stands for.
 use mathlib.Core.List.{List, [], map}
-use Prim.Native.Nat.{ℕ, _%_}
+use Prim.Native.Nat.{ℕ, suc, _%_, max}
 use lib.ListN.{length, getD, set}
 use Rattle.circuit.specs.declared.Circuit.{Circuit}
 use Rattle.circuit.specs.Sizes.{mostOutputs, mostGates, mostLines}
@@ -27,10 +27,10 @@ held c =
 abbrev pub noCircuit : Circuit
 noCircuit = held (listing 0 [] [])
 
--- a struct with gate k replaced
+-- a struct with gate k set: one that it has, or one more where k is how many it has
 abbrev pub putGate : Circuit → ℕ → ℕ → ℕ → ℕ → Circuit
 putGate c k kind a b =
-    record { n = c .n; m = c .m; g = c .g; kinds = set (c .kinds) k kind; left = set (c .left) k a; right = set (c .right) k b; outputs = c .outputs }
+    record { n = c .n; m = c .m; g = max (c .g) (suc k); kinds = set (c .kinds) k kind; left = set (c .left) k a; right = set (c .right) k b; outputs = c .outputs }
 
 -- a struct with other outputs
 abbrev pub putOutputs : Circuit → List ℕ → Circuit

@@ -9,6 +9,7 @@ use borrow.Author.Tests.{lt-ltb, le-ltb, le-leb, lt-leb, eq-eqb, ne-eqb, ltb-tru
 use lib.Dec.{leb, ltb, eqb}
 use lib.ListN.{length, getD, drop, drop-of-length-le}
 use lib.Seq.{drop-cons}
+use Rattle.circuit.proofs.LineLaws.{or-false}
 use Rattle.formula.specs.Text.{seen, inClass}
 use Rattle.formula.proofs.Laws.{seen-in}
 use Rattle.formula.specs.Names.{appended, partOf, findFrom, block, inBlock, Passed, inputOf, orElse, lowKey, highKey, fewNames, lookUp, nameBy}
@@ -116,10 +117,6 @@ module _ (low high ls : List ℕ) (a b n i : ℕ) where
   block-miss f j e k z = find-block ∙ rw (← e, k, z)
 
 -- places that have not the half are passed
-or-false : (x y : Bool) → x || y ≡ false → (x ≡ false) × (y ≡ false)
-or-false true y e = let z : _≡_ {A = ℕ} 0 1 = cc in absurd (omega arith)
-or-false false y e = (refl, e)
-
 module _ (l : List ℕ) (a : ℕ) where
   passed-one : (i j : ℕ) → j ≡ i + 1 → eqb (getD l i 0) a ≡ false → Passed l a i j
   passed-one i j e h k from to = let z : k ≡ i = omega arith in rw z (eqb-false _ _ h)

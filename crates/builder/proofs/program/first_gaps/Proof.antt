@@ -8,9 +8,9 @@ use lib.ListN.{length, getD, take, set, length-map}
 use Rattle.circuit.specs.Lines.{padded}
 use Rattle.circuit.specs.Sizes.{mostOutputs}
 use Rattle.circuit.proofs.Padding.{padded-none, padded-next, padded-all}
+use Rattle.circuit.proofs.Lists.{map-at}
 use Rattle.distance.specs.Base.{weight}
 use Rattle.distance.proofs.Weight.{no-weight, weight-le}
-use Rattle.builder.proofs.Lists.{map-at}
 use Rattle.builder.proofs.program.first_gaps.Statement.{statement}
 use Rattle.builder.proofs.program.first_gaps.Tie as tie
 
