@@ -13,7 +13,7 @@ use Rattle.circuit.proofs.Depths.{deeper-is}
 use Rattle.circuit.proofs.Operands.{depth-two, and-two, words-two}
 use Rattle.circuit.proofs.Padding.{put-next, pad-read, pad-next, padded-same}
 use Rattle.bench.specs.declared.Bench.{Bench}
-use Rattle.bench.specs.Parts.{gateOn, entries, examinedAs, examined}
+use Rattle.bench.specs.Parts.{gateOn, entries, examinedAs, examined, put}
 use Rattle.bench.specs.Held.{holding}
 
 -- ---- an array with an entry a line
@@ -92,10 +92,6 @@ stored-makes b c j x y d a w h l r s =
           s .value ∙ ap₂ (wordsOf (kindOf (q .kind))) (l .value) (r .value)
           ∙ sym (words-two j q (λ (i : ℕ). getD (words n Q j) i noWords));
     }
-
--- the bench with one line stored
-abbrev pub put : Bench → ℕ → ℕ → ℕ → Words → Bench
-put c at d a w = holding c (set (c .depths) at d) (set (c .«and_depths») at a) (set (c .values) at w)
 
 -- ---- the loop of `examine`
 

@@ -4,10 +4,13 @@ pub mod Setting
 pub mod Examining
 pub mod Turn
 pub mod Places
+pub mod Regating
 pub mod Replacing
+pub mod Appends
 pub mod Readers
 pub mod Stood
 pub mod StoreLaws
+pub mod Sweeps
 pub mod EditLaws
 pub mod EntryLaws
 pub mod OpenLaws

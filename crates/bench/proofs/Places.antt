@@ -34,7 +34,7 @@ size-places i [] = refl
 size-places i (true ∷ xs) = ap suc (size-places (suc i) xs)
 size-places i (false ∷ xs) = size-places (suc i) xs
 
-places-none : (i m : ℕ) → placesFrom i (replicate m false) ≡ []
+pub places-none : (i m : ℕ) → placesFrom i (replicate m false) ≡ []
 unfolding placesFrom
 places-none i zero = refl
 places-none i (suc m) = places-none (suc i) m

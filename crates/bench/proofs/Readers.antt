@@ -32,7 +32,7 @@ pub data Affected (c : Listing) (k : ℕ) : ℕ → Type 0 where
 
 -- ---- one of some lines
 
-any-of : (f : ℕ → Bool) (r : ℕ) (rs : List ℕ) → List·Memᴰ r rs → f r ≡ true → anyOf (map f rs) ≡ true
+pub any-of : (f : ℕ → Bool) (r : ℕ) (rs : List ℕ) → List·Memᴰ r rs → f r ≡ true → anyOf (map f rs) ≡ true
 any-of f r [] m h = absurd (List·Memᴰ·not-nil m)
 any-of f r (x ∷ rs) m h =
     go (f x) refl (List·Memᴰ·cases-cons m) (any-of f r rs) where
@@ -42,7 +42,7 @@ any-of f r (x ∷ rs) m h =
           ap (λ (t : Bool). t || anyOf (map f rs)) e
           ∙ ⊎-elim (λ q. absurd (true≢false (sym h ∙ ap f q ∙ e))) (λ m. rest m h) m
 
-some-of : (f : ℕ → Bool) (rs : List ℕ) → anyOf (map f rs) ≡ true → (r : ℕ) × (List·Memᴰ r rs × (f r ≡ true))
+pub some-of : (f : ℕ → Bool) (rs : List ℕ) → anyOf (map f rs) ≡ true → (r : ℕ) × (List·Memᴰ r rs × (f r ≡ true))
 some-of f [] h = absurd (true≢false (sym h))
 some-of f (x ∷ rs) h = go (f x) refl (some-of f rs) where
   go : (t : Bool) → f x ≡ t → (anyOf (map f rs) ≡ true → (r : ℕ) × (List·Memᴰ r rs × (f r ≡ true))) → (r : ℕ) × (List·Memᴰ r (x ∷ rs) × (f r ≡ true))

@@ -27,11 +27,12 @@ use Rattle.bench.specs.declared.Edit.{Edit}
 use Rattle.bench.specs.declared.Edited.{Edited}
 use Rattle.bench.specs.State.{State, Sound, SoundPresent, Present, nothing, present}
 use Rattle.bench.specs.Held.{emptyBench, fullBench, benchOf, Stands, holding, recircuited}
-use Rattle.bench.specs.Parts.{gateOn, entries, examinedAs, examined, AllBelow, Agree, Reexamined, standing, gateLook, replaced, Reworked}
+use Rattle.bench.specs.Parts.{gateOn, entries, examinedAs, examined, Agree, regated, Reexamined, standing, gateLook, Reworked}
 use Rattle.bench.specs.Calls.{gateEditAnswer, gateEdited, after, afterGate, readersOf, reworking, noRework, editBy, gateEdit, GatePromise}
-use Rattle.bench.proofs.Standing.{all-below, gate-of, full-examined, examined-same, full-standing}
+use Rattle.bench.proofs.Standing.{full-examined, full-standing}
 use Rattle.bench.proofs.Setting.{map-set, set-each}
 use Rattle.bench.proofs.Stood.{standing-shaped}
+use Rattle.bench.proofs.Regating.{refused-given, done-given, low-gate, held-all, stale, regated-is, fresh-bench, fresh-lines}
 
 -- ---- what is looked at
 
@@ -58,16 +59,6 @@ look-is z nothing st k kind a b =
 look-is z (present s) st k kind a b =
     ap (λ (z : Bench). gateLook (z .«is_open») (z .«is_matrix») (z .n) (z .m) (z .g) k kind a b) (st .is)
     ∙ ap (λ (t : Bool). unless t NothingOpen (gateEditAnswer (present s) k kind a b)) (full-standing s (st .sound))
-
--- a refusal leaves what was present, and reworks nothing
-refused-edit : (p : Present) (k kind a b : ℕ) (w : Refusal) → gateEditAnswer p k kind a b ≡ Refused w
-    → (noRework (Refused w) ≡ gateEdit p k kind a b) × (benchOf p ≡ benchOf (afterGate p k kind a b))
-unfolding gateEditAnswer
-refused-edit nothing k kind a b w e = (ap noRework (sym e), refl)
-refused-edit (present s) k kind a b w e = (
-  ap (λ (x : Answer). editBy x (readersOf (s .circuit) k)) (sym e),
-  ap (λ (x : Answer). benchOf (after x (gateEdited s k kind a b) (present s))) (sym e),
-)
 
 -- ---- the state after it
 
@@ -135,100 +126,74 @@ reached-same k n old new agree (suc j) =
 -- ---- the bench after it
 
 module _ (s : State) (k kind a b : ℕ) where
-  -- the new gate, and the state with it
+  -- the new gate, and the gates with it
   abbrev Q : Gate
   Q = gate kind a b
 
-  abbrev next : State
-  next = gateEdited s k kind a b
+  abbrev changed : List Gate
+  changed = set (s .circuit .gates) k Q
 
-  -- the bench of the new state, with what was held for the old one's lines
-  unfoldable pub stale : Bench
-  stale = holding (fullBench next) (fullBench s .depths) (fullBench s .«and_depths») (fullBench s .values)
+  same-count : length changed ≡ length (s .circuit .gates)
+  same-count = length-set (s .circuit .gates) k Q
 
-  module _ (there : k < length (s .circuit .gates)) where
-    -- a column of the gates with one changed
-    column-set : (f : Gate → ℕ) → set (column f (s .circuit .gates)) k (f Q) ≡ column f (set (s .circuit .gates) k Q)
-    column-set f =
-        padded-set mostGates 0 (map f (s .circuit .gates)) k (f Q) (omega (arith, length-map (s .circuit .gates) f))
-        ∙ ap (padded mostGates 0) (sym (map-set f (s .circuit .gates) k Q))
+  -- a column of the gates with one changed
+  column-set : k < length (s .circuit .gates) → (f : Gate → ℕ) → set (column f (s .circuit .gates)) k (f Q) ≡ column f changed
+  column-set there f =
+      padded-set mostGates 0 (map f (s .circuit .gates)) k (f Q) (omega (arith, length-map (s .circuit .gates) f))
+      ∙ ap (padded mostGates 0) (sym (map-set f (s .circuit .gates) k Q))
 
-    pub replaced-is : replaced (fullBench s) k kind a b ≡ stale
-    unfolding fullBench stale
-    replaced-is =
-        let p = column-set (λ (q : Gate). q .kind) in
-        let q = column-set (λ (q : Gate). q .left) in
-        let r = column-set (λ (q : Gate). q .right) in
-        let l = sym (length-set (s .circuit .gates) k Q) in
-        let c = held (s .circuit) in
-        λ i. recircuited (fullBench s) (record { n = c .n; m = c .m; g = l i; kinds = p i; left = q i; right = r i; outputs = c .outputs })
+  replaced-is : k < length (s .circuit .gates) → regated (fullBench s) k kind a b ≡ stale s k changed
+  replaced-is there = regated-is s k changed Q (column-set there) (omega (arith, same-count))
 
   -- what it holds is what examining the old gates gives
-  stale-was : s .circuit .inputs ≤ mostInputs → stale ≡ examinedAs stale (gateAt (s .circuit))
+  stale-was : s .circuit .inputs ≤ mostInputs → stale s k changed ≡ examinedAs (stale s k changed) (gateAt (s .circuit))
   unfolding stale examinedAs fullBench
   stale-was n8 =
       let c = s .circuit in
       let n = c .inputs in
       let e = full-examined s n8 in
-      let l = sym (length-set (c .gates) k Q) in
+      let l = sym same-count in
       let p = ap (λ (z : Bench). z .depths) e ∙ ap (entries depthStep 0 (replicate n 0) (gateAt c) n) l in
       let q = ap (λ (z : Bench). z .«and_depths») e ∙ ap (entries andStep 0 (replicate n 0) (gateAt c) n) l in
       let r = ap (λ (z : Bench). z .values) e ∙ ap (entries wordsStep noWords (take n inputWords) (gateAt c) n) l in
-      λ i. holding (fullBench next) (p i) (q i) (r i)
+      λ i. holding (fullBench (gateEdited s k kind a b)) (p i) (q i) (r i)
 
-  module _ (ok : Sound s) (h : gateEditAnswer (present s) k kind a b ≡ Done) where
-    fits : CircuitFits (isMatrix (s .target)) (next .circuit)
-    fits = circuit-fits (isMatrix (s .target)) (next .circuit) (sound-kept s k kind a b ok h .circuit)
+  -- all but gate k are as they were
+  agrees : Agree k (gateAt (s .circuit)) (gateAt (withGate (s .circuit) k Q))
+  agrees j ne = getD-set-other (s .circuit .gates) k j Q noGate ne
 
-    -- its gates are the new state's
-    stale-gate : (j : ℕ) → gateOn stale j ≡ gateAt (next .circuit) j
-    unfolding stale
-    stale-gate j = gate-of next fits j
-
-    -- all but gate k are as they were
-    stale-agrees : Agree k (gateAt (s .circuit)) (gateOn stale)
-    stale-agrees j ne = stale-gate j ∙ getD-set-other (s .circuit .gates) k j Q noGate ne
-
-    -- examined, it is the bench of the new state
-    stale-examined : s .circuit .inputs ≤ mostInputs → examined stale ≡ fullBench next
-    unfolding stale examinedAs
-    stale-examined n8 = examined-same (fullBench next) (gateAt (next .circuit)) (gateOn (fullBench next)) (λ i h. gate-of next fits i) ∙ sym (full-examined next n8)
-
-    stale-below : AllBelow (stale .n) (stale .g) (gateOn stale)
-    unfolding stale fullBench
-    stale-below j l =
-        subst (λ (q : Gate). (q .left < s .circuit .inputs + j) × (q .right < s .circuit .inputs + j)) (sym (stale-gate j))
-        (all-below (isMatrix (s .target)) (next .circuit) fits j l)
-
-    -- what the re-examination leaves
-    pub fresh-bench : (r : Bench) (x : Edit) → Reexamined stale k r x → r ≡ fullBench next
-    fresh-bench r x e =
-        let n8 = fits .shape .n-most in
-        e .fresh stale-below (gateAt (s .circuit)) stale-agrees (stale-was n8) ∙ stale-examined n8
-
-    -- what it lists
-    pub fresh-lines : (r : Bench) (x : Edit) → Reexamined stale k r x → x ≡ reworking (readersOf (s .circuit) k)
-    unfolding stale fullBench
-    fresh-lines r x e =
-        let c = s .circuit in
-        e .listed
-        ∙ ap reworking
-        (reached-same k (c .inputs) (gateAt c) (gateOn stale) stale-agrees (stale .g) ∙ ap (reached k (c .inputs) (gateAt c)) (length-set (c .gates) k Q))
+  -- what is reworked does not depend on the new gate
+  readers-same : readersOf (withGate (s .circuit) k Q) k ≡ readersOf (s .circuit) k
+  readers-same =
+      let c = s .circuit in
+      reached-same k (c .inputs) (gateAt c) (gateAt (withGate c k Q)) agrees (length changed) ∙ ap (reached k (c .inputs) (gateAt c)) same-count
 
 -- an accepted edit, on a bench that stands for p
 done-edit : (z : Bench) (p : Present) → Stands z p → (k kind a b : ℕ) → gateEditAnswer p k kind a b ≡ Done
-    → (r : Bench) (x : Edit) → Reexamined (replaced z k kind a b) k r x → (x ≡ gateEdit p k kind a b) × (r ≡ benchOf (afterGate p k kind a b))
+    → (r : Bench) (x : Edit) → Reexamined (regated z k kind a b) k r x → (x ≡ gateEdit p k kind a b) × (r ≡ benchOf (afterGate p k kind a b))
 unfolding gateEditAnswer
 done-edit z nothing st k kind a b h r x e = let y : _≡_ {A = ℕ} 0 1 = cc in absurd (omega arith)
 done-edit z (present s) st k kind a b h r x e =
-    let there = edit-fits s k kind a b h .there in
-    let was = ap (λ (z : Bench). replaced z k kind a b) (st .is) ∙ replaced-is s k kind a b there in
-    let f = subst (λ (z : Bench). Reexamined z k r x) was e in (
-      fresh-lines s k kind a b (st .sound) h r x f ∙ ap (λ (x : Answer). editBy x (readersOf (s .circuit) k)) (sym h),
-      fresh-bench s k kind a b (st .sound) h r x f ∙ ap (λ (x : Answer). benchOf (after x (gateEdited s k kind a b) (present s))) (sym h),
+    let only = isMatrix (s .target) in
+    let qs = changed s k kind a b in
+    let f = circuit-fits only (withGate (s .circuit) k (gate kind a b)) (sound-kept s k kind a b (st .sound) h .circuit) in
+    let is = ap (λ (z : Bench). regated z k kind a b) (st .is) ∙ replaced-is s k kind a b (edit-fits s k kind a b h .there) in
+    let done = subst (λ (z : Bench). Reexamined z k r x) is e in
+    let held = held-all (stale s k qs) k (gateAt (s .circuit)) (stale-was s k kind a b (f .shape .n-most)) in
+    let given = done-given (gateEditAnswer (present s) k kind a b) (readersOf (s .circuit) k) (gateEdited s k kind a b) (present s) h in (
+      fresh-lines s k qs f r x done ∙ ap reworking (readers-same s k kind a b) ∙ given .0,
+      fresh-bench s k qs f (gateAt (s .circuit)) (agrees s k kind a b) held r x done ∙ given .1,
     )
 
--- so what is given, by what was looked at, is what the edit promises; the code stores the low byte and the low 16 bits
+-- a refused one leaves what was present, and reworks nothing
+refused-edit : (p : Present) (k kind a b : ℕ) (w : Refusal) → gateEditAnswer p k kind a b ≡ Refused w
+    → (noRework (Refused w) ≡ gateEdit p k kind a b) × (benchOf p ≡ benchOf (afterGate p k kind a b))
+unfolding gateEditAnswer
+refused-edit nothing k kind a b w e = (ap noRework (sym e), refl)
+refused-edit (present s) k kind a b w e =
+    refused-given (gateEditAnswer (present s) k kind a b) w (readersOf (s .circuit) k) (gateEdited s k kind a b) (present s) e
+
+-- so what is given, by what was looked at, is what the edit promises
 pub gate-given : (z : Bench) (k kind a b kind′ a′ b′ : ℕ) (look : Answer) (r : Edited)
     → look ≡ gateLook (z .«is_open») (z .«is_matrix») (z .n) (z .m) (z .g) k kind a b → kind′ ≡ kind % 256 → a′ ≡ a % held16 → b′ ≡ b % held16
     → Reworked look z k kind′ a′ b′ r → GatePromise z k kind a b (r .edit) (r .bench)
@@ -237,8 +202,5 @@ gate-given z k kind a b kind′ a′ b′ (Refused w) r is ek ea eb h p st =
     (ap (λ (x : Edited). x .edit) h ∙ e .0, ap (λ (x : Edited). x .bench) h ∙ st .is ∙ e .1)
 gate-given z k kind a b kind′ a′ b′ Done r is ek ea eb h p st =
     let o = look-fits _ _ _ _ _ k kind a b Done is refl in
-    let q = ek ∙ mod-eq-of-lt (omega (arith, o .shape, o .gate)) in
-    let f = ea ∙ mod-eq-of-lt (omega (arith, o .shape, o .gate)) in
-    let g = eb ∙ mod-eq-of-lt (omega (arith, o .shape, o .gate)) in
     done-edit z p st k kind a b (sym (look-is z p st k kind a b) ∙ sym is) (r .bench) (r .edit)
-    (subst (λ (y : Bench). Reexamined y k (r .bench) (r .edit)) (λ i. replaced z k (q i) (f i) (g i)) h)
+    (subst (λ (y : Bench). Reexamined y k (r .bench) (r .edit)) (low-gate z k _ kind a b kind′ a′ b′ _ (o .gate) (omega (arith, o .shape, o .there)) ek ea eb) h)

@@ -26,9 +26,9 @@ use Rattle.bench.specs.declared.Edit.{Edit}
 use Rattle.bench.specs.declared.Reported.{Reported}
 use Rattle.bench.specs.State.{Limits, State, withCircuit, Present, nothing, present, Sound, SoundPresent}
 use Rattle.bench.specs.Held.{emptyBench, fullBench, benchOf, Stands}
-use Rattle.bench.specs.Calls.{after, openAnswer, openState, gateEditAnswer, gateEdited, afterGate, readersOf, editBy, gateEdit, reported, outputEditAnswer, entryEditAnswer, limitsAnswer, noRework, storeAnswer, storedOf, View, asTheyAre, benchAfterOpen, GatePromise, ReportPromise}
+use Rattle.bench.specs.Calls.{after, openAnswer, openState, gateEditAnswer, gateEdited, afterGate, readersOf, editBy, gateEdit, reported, outputEditAnswer, entryEditAnswer, limitsAnswer, noRework, sweepEdit, appendEdit, storeAnswer, storedOf, View, asTheyAre, benchAfterOpen, GatePromise, ReportPromise}
 use Rattle.bench.specs.Run.{Call, afterCall, presentFrom, presentAfter, StepGiven, RunsBy, Runs}
-use Rattle.bench.specs.Run.Call.{opening, replacing, pointing, changing, limiting, reporting, storing}
+use Rattle.bench.specs.Run.Call.{opening, replacing, pointing, changing, limiting, sweeping, appending, reporting, storing}
 use Rattle.bench.proofs.Examining.{inputs-length}
 use Rattle.bench.proofs.Unique.{one-present}
 use Rattle.bench.proofs.OpenLaws.{open-stands}
@@ -44,6 +44,8 @@ step-stands p k (StepGiven.replaced {k = g} {kind} {x} {y} edit promise) = recor
 step-stands p k (StepGiven.pointed {j} {line} edit promise) = record { sound = sound-call p (pointing j line) tt (k .sound); is = promise p k .1 }
 step-stands p k (StepGiven.changed {i} {value} edit promise) = record { sound = sound-call p (changing i value) tt (k .sound); is = promise p k .1 }
 step-stands p k (StepGiven.limited {l} edit small promise) = record { sound = sound-call p (limiting l) small (k .sound); is = promise p k .1 }
+step-stands p k (StepGiven.swept edit promise) = record { sound = sound-call p sweeping tt (k .sound); is = promise p k .1 }
+step-stands p k (StepGiven.appended {kind} {x} {y} edit promise) = record { sound = sound-call p (appending kind x y) tt (k .sound); is = promise p k .1 }
 step-stands p k (StepGiven.reported r promise) = k
 step-stands p k (StepGiven.stored r out promise) = k
 
@@ -80,6 +82,8 @@ step-exists v b p k (replacing g kind x y) u = StepGiven.replaced (v .edit (gate
 step-exists v b p k (pointing j line) u = StepGiven.pointed (v .edit (noRework (outputEditAnswer p j line))) (met b p k _ (refl, refl))
 step-exists v b p k (changing i value) u = StepGiven.changed (v .edit (noRework (entryEditAnswer p i value))) (met b p k _ (refl, refl))
 step-exists v b p k (limiting l) small = StepGiven.limited (v .edit (noRework (limitsAnswer p))) small (met b p k _ (refl, refl))
+step-exists v b p k sweeping u = StepGiven.swept (v .edit (sweepEdit p)) (met b p k _ (refl, refl))
+step-exists v b p k (appending kind x y) u = StepGiven.appended (v .edit (appendEdit p kind x y)) (met b p k _ (refl, refl))
 step-exists v b p k reporting u = subst (λ (z : Bench). StepGiven v b reporting z) (k .is) (StepGiven.reported (v .report (reported p)) (met b p k _ refl))
 step-exists v b p k (storing room) u =
     let r = storeAnswer p (length room) in
@@ -94,6 +98,8 @@ callable (StepGiven.replaced edit promise) = tt
 callable (StepGiven.pointed edit promise) = tt
 callable (StepGiven.changed edit promise) = tt
 callable (StepGiven.limited edit small promise) = small
+callable (StepGiven.swept edit promise) = tt
+callable (StepGiven.appended edit promise) = tt
 callable (StepGiven.reported r promise) = tt
 callable (StepGiven.stored r out promise) = tt
 

@@ -15,13 +15,15 @@ use Rattle.stored.specs.Reading.{readAnswer}
 use Rattle.stored.proofs.Round.{listing-accepted}
 use Rattle.targets.specs.Target.{Target, isMatrix, targetFits}
 use Rattle.bench.specs.State.{Limits, State, withLimits, Present, nothing, present, Sound, SoundPresent, LimitsFit}
-use Rattle.bench.specs.Calls.{after, openAnswer, openState, outputEditAnswer, outputEdited, entryEditAnswer, entryEdited}
+use Rattle.bench.specs.Calls.{after, openAnswer, openState, outputEditAnswer, outputEdited, entryEditAnswer, entryEdited, appendAnswer, appended}
 use Rattle.bench.specs.Run.{Call, afterCall}
-use Rattle.bench.specs.Run.Call.{opening, replacing, pointing, changing, limiting, reporting, storing}
+use Rattle.bench.specs.Run.Call.{opening, replacing, pointing, changing, limiting, sweeping, appending, reporting, storing}
 use Rattle.bench.proofs.Setting.{set-each}
 use Rattle.bench.proofs.EditLaws.{output-there}
 use Rattle.bench.proofs.EntryLaws.{entry-accepted, same-kind}
 use Rattle.bench.proofs.Replacing.{sound-after as gate-sound}
+use Rattle.bench.proofs.Appends.{sound-appended}
+use Rattle.bench.proofs.Sweeps.{sound-sweep}
 
 pub sound-open : (bytes : List ℕ) (t : Target) (l : Limits) → LimitsFit l → openAnswer bytes t ≡ Done → Sound (openState bytes t l)
 unfolding openAnswer
@@ -77,6 +79,8 @@ Callable (replacing k kind a b) = Unit {0}
 Callable (pointing j line) = Unit {0}
 Callable (changing i value) = Unit {0}
 Callable (limiting l) = LimitsFit l
+Callable sweeping = Unit {0}
+Callable (appending kind a b) = Unit {0}
 Callable reporting = Unit {0}
 Callable (storing room) = Unit {0}
 
@@ -92,5 +96,10 @@ sound-call (present s) (changing i value) u ok =
     sound-after (entryEditAnswer (present s) i value) (entryEdited s i value) (present s) (sound-entry s ok i value) ok
 sound-call nothing (limiting l) small ok = ok
 sound-call (present s) (limiting l) small ok = sound-limits s ok l small
+sound-call nothing sweeping u ok = ok
+sound-call (present s) sweeping u ok = sound-sweep s ok
+sound-call nothing (appending kind a b) u ok = ok
+sound-call (present s) (appending kind a b) u ok =
+    sound-after (appendAnswer (present s) kind a b) (appended s kind a b) (present s) (sound-appended s kind a b ok) ok
 sound-call p reporting u ok = ok
 sound-call p (storing room) u ok = ok

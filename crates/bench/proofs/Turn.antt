@@ -7,7 +7,7 @@ use native.Mathlib.Omega.{arith}
 use borrow.Author.Tests.{eqb-true, eqb-false, eq-eqb}
 use lib.Dec.{eqb}
 use lib.Seq.{getD-set-same, set-getD, set-comm}
-use lib.ListN.{length, getD, set, take, drop, replicate, length-replicate, replicate-append-replicate, List·getD-eq-default}
+use lib.ListN.{length, getD, set, take, drop, replicate, length-set, length-replicate, replicate-append-replicate, List·getD-eq-default}
 use Rattle.circuit.specs.declared.Answer.the-variants.{Done}
 use Rattle.circuit.specs.declared.Words.{Words}
 use Rattle.circuit.specs.Gate.{noWords}
@@ -18,16 +18,16 @@ use Rattle.circuit.proofs.Keep.{kept-read, kept-hit, kept-start, kept-miss, kep
 use Rattle.circuit.proofs.Operands.{reach-two, reads-below}
 use Rattle.bench.specs.declared.Bench.{Bench}
 use Rattle.bench.specs.Calls.{reworking}
-use Rattle.bench.specs.Parts.{gateOn, entries, examinedAs, AllBelow, Agree, Reexamined}
+use Rattle.bench.specs.Parts.{gateOn, entries, examinedAs, AllBelow, Agree, put, HeldBut, Reexamined}
 use Rattle.bench.specs.Held.{holding}
 use Rattle.bench.proofs.Places.{Tells, tells-none, tells-hit, tells-miss}
-use Rattle.bench.proofs.Examining.{entries-read, entries-skip, entries-next, entries-length, inputs-length, Stored, Shows, stored-makes, put}
+use Rattle.bench.proofs.Examining.{entries-read, entries-skip, entries-next, entries-length, inputs-length, Stored, Shows, stored-makes}
 
--- the circuit before the edit: it differs at gate k alone, and its lines were held
+-- the circuit before the edit: it differs at gate k alone, and its other lines were held
 pub record Old (b : Bench) (k : ℕ) (old : ℕ → Gate) : Type 0 where
   pub below : AllBelow (b .n) (b .g) (gateOn b)
   pub agree : Agree k old (gateOn b)
-  pub was : b ≡ examinedAs b old
+  pub was : HeldBut b k old
 
 -- each held array is fresh so far, and what it was from there on
 pub record Fresh (b : Bench) (j : ℕ) (c : Bench) : Type 0 where
@@ -84,28 +84,28 @@ module _ (b : Bench) (k : ℕ) (n-most : b .n ≤ mostInputs) (g-most : b .g ≤
   ws : length (take N inputWords) ≡ N
   ws = inputs-length N n-most
 
-  -- what was held, array by array, with its length
-  record Was (old : ℕ → Gate) : Type 0 where
-    depths : b .depths ≡ entries depthStep 0 (replicate N 0) old N (b .g)
-    ands : b .«and_depths» ≡ entries andStep 0 (replicate N 0) old N (b .g)
-    values : b .values ≡ entries wordsStep noWords (take N inputWords) old N (b .g)
+  -- what was held, array by array but for the line of gate k, with its length
+  record Was (old : ℕ → Gate) (h : HeldBut b k old) : Type 0 where
+    depths : set (b .depths) (N + k) (h .depth) ≡ entries depthStep 0 (replicate N 0) old N (b .g)
+    ands : set (b .«and_depths») (N + k) (h .andDepth) ≡ entries andStep 0 (replicate N 0) old N (b .g)
+    values : set (b .values) (N + k) (h .value) ≡ entries wordsStep noWords (take N inputWords) old N (b .g)
     depths-length : length (b .depths) ≡ mostLines
     ands-length : length (b .«and_depths») ≡ mostLines
     values-length : length (b .values) ≡ mostLines
 
-  held : (old : ℕ → Gate) → b ≡ examinedAs b old → Was old
+  held : (old : ℕ → Gate) (h : HeldBut b k old) → Was old h
   unfolding examinedAs
-  held old w =
-      let p = ap (λ (z : Bench). z .depths) w in
-      let q = ap (λ (z : Bench). z .«and_depths») w in
-      let r = ap (λ (z : Bench). z .values) w in
+  held old h =
+      let p = ap (λ (z : Bench). z .depths) (h .is) in
+      let q = ap (λ (z : Bench). z .«and_depths») (h .is) in
+      let r = ap (λ (z : Bench). z .values) (h .is) in
       record {
         depths = p;
         ands = q;
         values = r;
-        depths-length = ap length p ∙ entries-length depthStep 0 (replicate N 0) old N zs (b .g) (omega arith);
-        ands-length = ap length q ∙ entries-length andStep 0 (replicate N 0) old N zs (b .g) (omega arith);
-        values-length = ap length r ∙ entries-length wordsStep noWords (take N inputWords) old N ws (b .g) (omega arith);
+        depths-length = sym (length-set (b .depths) (N + k) (h .depth)) ∙ ap length p ∙ entries-length depthStep 0 (replicate N 0) old N zs (b .g) (omega arith);
+        ands-length = sym (length-set (b .«and_depths») (N + k) (h .andDepth)) ∙ ap length q ∙ entries-length andStep 0 (replicate N 0) old N zs (b .g) (omega arith);
+        values-length = sym (length-set (b .values) (N + k) (h .value)) ∙ ap length r ∙ entries-length wordsStep noWords (take N inputWords) old N ws (b .g) (omega arith);
       }
 
   reached-length : (j : ℕ) → length (R j) ≡ N + j
@@ -120,6 +120,10 @@ module _ (b : Bench) (k : ℕ) (n-most : b .n ≤ mostInputs) (g-most : b .g ≤
       let line : ℕ → Bool = λ i. getD (R j) i false in
       reach-two k j (Q j) line ∙ ap (λ (t : Bool). t || (line (Q j .left) || line (secondRead (Q j)))) e
 
+  -- gate k reaches its own line
+  pub own-hit : hits k ≡ true
+  own-hit = hits-by k true (eq-eqb k k refl)
+
   -- past gate k its line is marked as the others are
   own-kept : (j : ℕ) → k < j → set (E j) (N + k) true ≡ E j
   own-kept j h =
@@ -127,7 +131,7 @@ module _ (b : Bench) (k : ℕ) (n-most : b .n ≤ mostInputs) (g-most : b .g ≤
       let e : getD (E j) (N + k) false ≡ true =
       entries-read (reachStep k) false (replicate N false) Q N j (N + k)
       ∙ lines-more (reachStep k) false (replicate N false) Q (suc k) (N + k) (omega arith) j (omega arith)
-      ∙ lines-at (reachStep k) false (replicate N false) Q k (N + k) (omega arith) ∙ hits-by k true (eq-eqb k k refl) in
+      ∙ lines-at (reachStep k) false (replicate N false) Q k (N + k) (omega arith) ∙ own-hit in
       ap (set (E j) (N + k)) (sym e) ∙ set-getD (E j) (N + k) false
 
   -- the code's test is whether the gate's line is reached
@@ -164,9 +168,9 @@ module _ (b : Bench) (k : ℕ) (n-most : b .n ≤ mostInputs) (g-most : b .g ≤
         let w = held old (o .was) in
         let le : k ≤ b .g = omega arith in
         record {
-          depths = kept-start depthStep 0 (replicate N 0) N zs old Q k (o .agree) (b .depths) (b .g) more (w .depths) le;
-          ands = kept-start andStep 0 (replicate N 0) N zs old Q k (o .agree) (b .«and_depths») (b .g) more (w .ands) le;
-          values = kept-start wordsStep noWords (take N inputWords) N ws old Q k (o .agree) (b .values) (b .g) more (w .values) le;
+          depths = kept-start depthStep 0 (replicate N 0) N zs old Q k (o .agree) (b .depths) (b .g) more (o .was .depth) (w .depths) le;
+          ands = kept-start andStep 0 (replicate N 0) N zs old Q k (o .agree) (b .«and_depths») (b .g) more (o .was .andDepth) (w .ands) le;
+          values = kept-start wordsStep noWords (take N inputWords) N ws old Q k (o .agree) (b .values) (b .g) more (o .was .value) (w .values) le;
         };
   }
 
@@ -219,25 +223,25 @@ module _ (b : Bench) (k : ℕ) (n-most : b .n ≤ mostInputs) (g-most : b .g ≤
         let f = t .fresh old o in
         let w = held old (o .was) in
         record {
-          depths = kept-miss depthStep 0 (replicate N 0) N zs old Q k (o .agree) (b .depths) (b .g) more (w .depths) j (c .depths) h (omega (arith, w .depths-length)) (f .depths) hh;
-          ands = kept-miss andStep 0 (replicate N 0) N zs old Q k (o .agree) (b .«and_depths») (b .g) more (w .ands) j (c .«and_depths») h (omega (arith, w .ands-length)) (f .ands) hh;
-          values = kept-miss wordsStep noWords (take N inputWords) N ws old Q k (o .agree) (b .values) (b .g) more (w .values) j (c .values) h (omega (arith, w .values-length)) (f .values) hh;
+          depths = kept-miss depthStep 0 (replicate N 0) N zs old Q k (o .agree) (b .depths) (b .g) more (o .was .depth) (w .depths) j (c .depths) h (omega (arith, w .depths-length)) (f .depths) hh;
+          ands = kept-miss andStep 0 (replicate N 0) N zs old Q k (o .agree) (b .«and_depths») (b .g) more (o .was .andDepth) (w .ands) j (c .«and_depths») h (omega (arith, w .ands-length)) (f .ands) hh;
+          values = kept-miss wordsStep noWords (take N inputWords) N ws old Q k (o .agree) (b .values) (b .g) more (o .was .value) (w .values) j (c .values) h (omega (arith, w .values-length)) (f .values) hh;
         };
   }
 
-  pub done : {c : Bench} {lines : List ℕ} {count : ℕ} {marks : List Bool} {j : ℕ} → b .g ≤ j → Turn b k c lines count marks j
+  pub done : {c : Bench} {lines : List ℕ} {count : ℕ} {marks : List Bool} {j : ℕ} → k < b .g → b .g ≤ j → Turn b k c lines count marks j
       → Reexamined b k c (record { answer = Done; lines = lines; count = count })
   unfolding examinedAs
-  done {c} {lines} {count} {marks} {j} h t =
+  done {c} {lines} {count} {marks} {j} there h t =
       let e : j ≡ b .g = omega (arith, t .to) in
       let u : Turn b k c lines count marks (b .g) = subst (λ (x : ℕ). Turn b k c lines count marks x) e t in
       record {
         fresh = λ below old agree was.
             let f = u .fresh old (record { below = below; agree = agree; was = was }) in
             let w = held old was in
-            let p = kept-done depthStep 0 (replicate N 0) N zs old Q k agree (b .depths) (b .g) more (w .depths) (c .depths) (f .depths) in
-            let q = kept-done andStep 0 (replicate N 0) N zs old Q k agree (b .«and_depths») (b .g) more (w .ands) (c .«and_depths») (f .ands) in
-            let r = kept-done wordsStep noWords (take N inputWords) N ws old Q k agree (b .values) (b .g) more (w .values) (c .values) (f .values) in
+            let p = kept-done depthStep 0 (replicate N 0) N zs old Q k agree (b .depths) (b .g) more (was .depth) (w .depths) there (c .depths) (f .depths) in
+            let q = kept-done andStep 0 (replicate N 0) N zs old Q k agree (b .«and_depths») (b .g) more (was .andDepth) (w .ands) there (c .«and_depths») (f .ands) in
+            let r = kept-done wordsStep noWords (take N inputWords) N ws old Q k agree (b .values) (b .g) more (was .value) (w .values) there (c .values) (f .values) in
             u .rest ∙ (λ i. holding b (p i) (q i) (r i));
         listed = u .listed;
       }

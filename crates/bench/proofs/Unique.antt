@@ -17,7 +17,7 @@ use Rattle.targets.specs.Target.{Target, matrix, table, isMatrix, targetBytes, 
 use Rattle.bench.specs.declared.Bench.{Bench}
 use Rattle.bench.specs.State.{Limits, State, state, Present, nothing, present, Sound, limits}
 use Rattle.bench.specs.Held.{emptyBench, fullBench, Stands, circuitOf, limitsOf}
-use Rattle.bench.specs.Calls.{View, OpenGiven, GateGiven, OutputGiven, EntryGiven, LimitsGiven, ReportGiven, StoreGiven}
+use Rattle.bench.specs.Calls.{View, OpenGiven, GateGiven, OutputGiven, EntryGiven, LimitsGiven, SweepGiven, AppendGiven, ReportGiven, StoreGiven}
 use Rattle.bench.proofs.StoreLaws.{circuit-of-full}
 
 -- two pairs that are each the same two values
@@ -43,6 +43,12 @@ module _ (v : View) where
 
     pub set-limits-unique : (l : Limits) (r s : v .Edits) (c d : Bench) → LimitsGiven v b l r c → LimitsGiven v b l s d → (r ≡ s) × (c ≡ d)
     set-limits-unique l r s c d m n = both-same (m p k) (n p k)
+
+    pub sweep-unique : (r s : v .Edits) (c d : Bench) → SweepGiven v b r c → SweepGiven v b s d → (r ≡ s) × (c ≡ d)
+    sweep-unique r s c d m n = both-same (m p k) (n p k)
+
+    pub append-gate-unique : (kind x y : ℕ) (r s : v .Edits) (c d : Bench) → AppendGiven v b kind x y r c → AppendGiven v b kind x y s d → (r ≡ s) × (c ≡ d)
+    append-gate-unique kind x y r s c d m n = both-same (m p k) (n p k)
 
     pub report-unique : (r s : v .Reports) → ReportGiven v b r → ReportGiven v b s → r ≡ s
     report-unique r s m n = m p k ∙ sym (n p k)

@@ -1,21 +1,22 @@
 -- The calls as functions on what is present: what each answers, what is present after it, and what the code promises of it.
 use mathlib.Core.Path.{_≡_}
-use mathlib.Core.Bool.{Bool, cond}
-use mathlib.Core.List.{List, [], _∷_}
+use mathlib.Core.Bool.{Bool, true, false, cond}
+use mathlib.Core.List.{List, [], _∷_, _++_}
 use Prim.Native.Nat.{ℕ, suc, _+_, _^_}
 use lib.Dec.{ltb}
 use lib.ListN.{length, set, replicate}
-use Rattle.circuit.specs.declared.Refusal.the-variants.{Target as BadTarget, NotThere, NothingOpen}
+use Rattle.circuit.specs.declared.Refusal.the-variants.{Target as BadTarget, NotThere, NothingOpen, Full}
 use Rattle.circuit.specs.declared.Answer.{Answer}
 use Rattle.circuit.specs.declared.Answer.the-variants.{Done, Refused}
-use Rattle.circuit.specs.Lines.{Listing, gateAt, reached, padded, gate, withGate, withOuts}
+use Rattle.circuit.specs.Lines.{Listing, gateAt, reached, padded, gate, withGate, withMore, withOuts}
 use Rattle.circuit.specs.Rules.{unless, andThen, gateAnswer, outAnswer}
-use Rattle.circuit.specs.Sizes.{mostLines}
+use Rattle.circuit.specs.Sizes.{mostGates, mostLines}
 use Rattle.stored.specs.declared.Writing.{Writing}
 use Rattle.stored.specs.declared.Writing.the-variants.{NotWritten}
 use Rattle.stored.specs.Stored.{stored, listingIn}
 use Rattle.stored.specs.Reading.{readAnswer}
 use Rattle.stored.specs.Writing.{intoRoom, roomAfter}
+use Rattle.sweep.specs.Sweep.{swept}
 use Rattle.targets.specs.Target.{Target, matrix, table, isMatrix, rowFits, entryFits, targetFits}
 use Rattle.bench.specs.declared.Bench.{Bench}
 use Rattle.bench.specs.declared.Edit.{Edit}
@@ -111,6 +112,32 @@ abbrev pub afterLimits : Present → Limits → Present
 afterLimits nothing l = nothing
 afterLimits (present s) l = present (withLimits s l)
 
+-- what is present after a sweep: its circuit is swept; target and limits stay
+abbrev pub afterSweep : Present → Present
+afterSweep nothing = nothing
+afterSweep (present s) = present (withCircuit s (swept (s .circuit)))
+
+-- the most gates that a circuit may have under a target
+abbrev pub mostGatesFor : Listing → Target → ℕ
+mostGatesFor c t = mostGates
+
+-- appending a gate: nothing open (13), as many gates there as there may be (18), then kind (4), operands (5), XOR only (7)
+unfoldable pub appendAnswer : Present → ℕ → ℕ → ℕ → Answer
+appendAnswer nothing kind a b = Refused NothingOpen
+appendAnswer (present s) kind a b =
+    let c = s .circuit in
+    let g = length (c .gates) in
+    unless (ltb g (mostGatesFor c (s .target))) Full (gateAnswer (isMatrix (s .target)) (c .inputs + g) (gate kind a b))
+
+-- the state with one gate more
+abbrev pub appended : State → ℕ → ℕ → ℕ → State
+appended s kind a b = withCircuit s (withMore (s .circuit) (gate kind a b))
+
+-- what is present after appending a gate
+abbrev pub afterAppend : Present → ℕ → ℕ → ℕ → Present
+afterAppend nothing kind a b = nothing
+afterAppend (present s) kind a b = after (appendAnswer (present s) kind a b) (appended s kind a b) (present s)
+
 -- ---- what an edit answers
 
 -- the numbers, from i on, of the places that are marked, in ascending order
@@ -144,6 +171,21 @@ editBy (Refused w) marks = noRework (Refused w)
 abbrev pub gateEdit : Present → ℕ → ℕ → ℕ → ℕ → Edit
 gateEdit nothing k kind a b = noRework (Refused NothingOpen)
 gateEdit (present s) k kind a b = editBy (gateEditAnswer (present s) k kind a b) (readersOf (s .circuit) k)
+
+-- the set of the lines of a circuit's gates
+abbrev pub gateLines : Listing → List Bool
+gateLines c = replicate (c .inputs) false ++ replicate (length (c .gates)) true
+
+-- what a sweep answers: nothing open (13), or the line of each gate that it keeps, renumbered
+abbrev pub sweepEdit : Present → Edit
+sweepEdit nothing = noRework (Refused NothingOpen)
+sweepEdit (present s) = reworking (gateLines (swept (s .circuit)))
+
+-- what appending a gate answers: as for a replaced gate, its own line and each that reads it, and no gate reads it yet
+abbrev pub appendEdit : Present → ℕ → ℕ → ℕ → Edit
+appendEdit nothing kind a b = noRework (Refused NothingOpen)
+appendEdit (present s) kind a b =
+    editBy (appendAnswer (present s) kind a b) (readersOf (withMore (s .circuit) (gate kind a b)) (length (s .circuit .gates)))
 
 -- ---- report and store
 
@@ -214,6 +256,14 @@ EntryGiven v b i value r next = (p : Present) → Stands b p → (r ≡ v .edit 
 abbrev pub LimitsGiven : (v : View) → Bench → Limits → v .Edits → Bench → Type 0
 LimitsGiven v b l r next = (p : Present) → Stands b p → (r ≡ v .edit (noRework (limitsAnswer p))) × (next ≡ benchOf (afterLimits p l))
 
+-- of a sweep
+abbrev pub SweepGiven : (v : View) → Bench → v .Edits → Bench → Type 0
+SweepGiven v b r next = (p : Present) → Stands b p → (r ≡ v .edit (sweepEdit p)) × (next ≡ benchOf (afterSweep p))
+
+-- of appending a gate
+abbrev pub AppendGiven : (v : View) → Bench → ℕ → ℕ → ℕ → v .Edits → Bench → Type 0
+AppendGiven v b kind x y r next = (p : Present) → Stands b p → (r ≡ v .edit (appendEdit p kind x y)) × (next ≡ benchOf (afterAppend p kind x y))
+
 -- of a report
 abbrev pub ReportGiven : (v : View) → Bench → v .Reports → Type 0
 ReportGiven v b r = (p : Present) → Stands b p → r ≡ v .report (reported p)
@@ -244,6 +294,14 @@ EntryPromise = EntryGiven asTheyAre
 -- of setting the limits
 abbrev pub LimitsPromise : Bench → Limits → Edit → Bench → Type 0
 LimitsPromise = LimitsGiven asTheyAre
+
+-- of a sweep
+abbrev pub SweepPromise : Bench → Edit → Bench → Type 0
+SweepPromise = SweepGiven asTheyAre
+
+-- of appending a gate
+abbrev pub AppendPromise : Bench → ℕ → ℕ → ℕ → Edit → Bench → Type 0
+AppendPromise = AppendGiven asTheyAre
 
 -- of a report
 abbrev pub ReportPromise : Bench → Reported → Type 0

@@ -4,16 +4,17 @@ use mathlib.Core.Bool.{Bool, true, cond, _&&_}
 use mathlib.Core.List.{List, _++_}
 use Prim.Native.Nat.{ℕ, _+_, _-_, _^_, _<_}
 use lib.Dec.{ltb}
-use lib.ListN.{take, replicate}
+use lib.ListN.{take, set, replicate}
 use Rattle.circuit.specs.declared.Answer.{Answer}
 use Rattle.circuit.specs.declared.Answer.the-variants.{Done, Refused}
-use Rattle.circuit.specs.declared.Refusal.the-variants.{NotThere, NothingOpen, Target as BadTarget}
+use Rattle.circuit.specs.declared.Refusal.the-variants.{NotThere, NothingOpen, Full, Target as BadTarget}
 use Rattle.circuit.specs.declared.Circuit.{Circuit}
+use Rattle.circuit.specs.declared.Words.{Words}
 use Rattle.circuit.specs.Gate.{noWords}
 use Rattle.circuit.specs.Lines.{Gate, gate, lines, depthStep, andStep, wordsStep, inputWords, reached, padded}
 use Rattle.circuit.specs.Structs.{gateOf, putGate}
 use Rattle.circuit.specs.Rules.{unless, shaped, gateAnswer, outAnswer}
-use Rattle.circuit.specs.Sizes.{mostLines, mostValues}
+use Rattle.circuit.specs.Sizes.{mostGates, mostLines, mostValues}
 use Rattle.targets.specs.Target.{valueFits, targetOf}
 use Rattle.targets.specs.Wanted.{wantedOf}
 use Rattle.bench.specs.declared.Bench.{Bench}
@@ -51,14 +52,25 @@ AllBelow n g gates = (j : ℕ) → j < g → (gates j .left < n + j) × (gates j
 abbrev pub Agree : ℕ → (ℕ → Gate) → (ℕ → Gate) → Type 0
 Agree k old new = (j : ℕ) → (j ≡ k → ⊥) → new j ≡ old j
 
--- the bench with gate k replaced, and its lines not yet examined
-abbrev pub replaced : Bench → ℕ → ℕ → ℕ → ℕ → Bench
-replaced z k kind a b = recircuited z (putGate (circuitOf z) k kind a b)
+-- the bench with gate k set, one that it has or the next, and its lines not yet examined
+abbrev pub regated : Bench → ℕ → ℕ → ℕ → ℕ → Bench
+regated z k kind a b = recircuited z (putGate (circuitOf z) k kind a b)
 
--- after gate k was replaced: where the lines were those of the gates before it, they are those of the present gates;
+-- the bench with one line stored: its depth, AND depth and values
+abbrev pub put : Bench → ℕ → ℕ → ℕ → Words → Bench
+put c at d a w = holding c (set (c .depths) at d) (set (c .«and_depths») at a) (set (c .values) at w)
+
+-- a bench holds what examining these gates gives, whatever it holds for the line of gate k
+pub record HeldBut (b : Bench) (k : ℕ) (gates : ℕ → Gate) : Type 0 where
+  pub depth : ℕ
+  pub andDepth : ℕ
+  pub value : Words
+  pub is : put b (b .n + k) depth andDepth value ≡ examinedAs b gates
+
+-- after gate k was set: where the other lines were those of the gates before it, all are those of the present gates;
 -- and the lines reached from gate k are listed, and no others
 pub record Reexamined (b : Bench) (k : ℕ) (r : Bench) (e : Edit) : Type 0 where
-  pub fresh : AllBelow (b .n) (b .g) (gateOn b) → (old : ℕ → Gate) → Agree k old (gateOn b) → b ≡ examinedAs b old → r ≡ examined b
+  pub fresh : AllBelow (b .n) (b .g) (gateOn b) → (old : ℕ → Gate) → Agree k old (gateOn b) → HeldBut b k old → r ≡ examined b
   pub listed : e ≡ reworking (reached k (b .n) (gateOn b) (b .g))
 
 -- ---- what a call looks at before it changes anything: 13, 12, and then the edit's own
@@ -70,6 +82,10 @@ standing opened n m g = opened && shaped n m g
 -- what replacing a gate is refused for, from the numbers on the bench
 unfoldable pub gateLook : Bool → Bool → ℕ → ℕ → ℕ → ℕ → ℕ → ℕ → ℕ → Answer
 gateLook opened only n m g k kind a b = unless (standing opened n m g) NothingOpen (unless (ltb k g) NotThere (gateAnswer only (n + k) (gate kind a b)))
+
+-- what appending a gate is refused for
+unfoldable pub appendLook : Bool → Bool → ℕ → ℕ → ℕ → ℕ → ℕ → ℕ → Answer
+appendLook opened only n m g kind a b = unless (standing opened n m g) NothingOpen (unless (ltb g mostGates) Full (gateAnswer only (n + g) (gate kind a b)))
 
 -- what pointing an output is refused for
 unfoldable pub outputLook : Bool → ℕ → ℕ → ℕ → ℕ → ℕ → Answer
@@ -85,9 +101,9 @@ entryLook opened only n m g i value =
 abbrev pub unreworked : Bench → Answer → Edited
 unreworked b a = record { bench = b; edit = noRework a }
 
--- what replacing gate k gives, by what was looked at first: a refusal leaves the bench
+-- what setting gate k gives, by what was looked at first: a refusal leaves the bench
 abbrev pub Reworked : Answer → Bench → ℕ → ℕ → ℕ → ℕ → Edited → Type 0
-Reworked Done b k kind x y r = Reexamined (replaced b k kind x y) k (r .bench) (r .edit)
+Reworked Done b k kind x y r = Reexamined (regated b k kind x y) k (r .bench) (r .edit)
 Reworked (Refused w) b k kind x y r = r ≡ unreworked b (Refused w)
 
 -- ---- opening

@@ -4,16 +4,18 @@ use Prim.Native.Nat.{ℕ}
 use Rattle.targets.specs.Target.{Target}
 use Rattle.bench.specs.declared.Bench.{Bench}
 use Rattle.bench.specs.State.{Limits, LimitsFit, Present, nothing}
-use Rattle.bench.specs.Calls.{afterOpen, afterGate, afterOutput, afterEntry, afterLimits, View, asTheyAre, OpenGiven, GateGiven, OutputGiven, EntryGiven, LimitsGiven, ReportGiven, StoreGiven}
+use Rattle.bench.specs.Calls.{afterOpen, afterGate, afterOutput, afterEntry, afterLimits, afterSweep, afterAppend, View, asTheyAre, OpenGiven, GateGiven, OutputGiven, EntryGiven, LimitsGiven, SweepGiven, AppendGiven, ReportGiven, StoreGiven}
 
 -- the calls, with what each is given: stored bytes, a target of either kind and limits; gate, kind and operands; output and
--- line; entry and value; limits; nothing; and the room that is lent
+-- line; entry and value; limits; nothing; kind and operands; nothing; and the room that is lent
 pub data Call : Type 0 where
   opening : List ℕ → Target → Limits → Call
   replacing : ℕ → ℕ → ℕ → ℕ → Call
   pointing : ℕ → ℕ → Call
   changing : ℕ → ℕ → Call
   limiting : Limits → Call
+  sweeping : Call
+  appending : ℕ → ℕ → ℕ → Call
   reporting : Call
   storing : List ℕ → Call
 
@@ -24,6 +26,8 @@ afterCall p (replacing k kind a b) = afterGate p k kind a b
 afterCall p (pointing j line) = afterOutput p j line
 afterCall p (changing i value) = afterEntry p i value
 afterCall p (limiting l) = afterLimits p l
+afterCall p sweeping = afterSweep p
+afterCall p (appending kind a b) = afterAppend p kind a b
 afterCall p reporting = p
 afterCall p (storing room) = p
 
@@ -45,6 +49,8 @@ pub data StepGiven (v : View) (b : Bench) : Call → Bench → Type 0 where
   pointed : {j line : ℕ} {next : Bench} (edit : v .Edits) → OutputGiven v b j line edit next → StepGiven v b (pointing j line) next
   changed : {i value : ℕ} {next : Bench} (edit : v .Edits) → EntryGiven v b i value edit next → StepGiven v b (changing i value) next
   limited : {l : Limits} {next : Bench} (edit : v .Edits) → LimitsFit l → LimitsGiven v b l edit next → StepGiven v b (limiting l) next
+  swept : {next : Bench} (edit : v .Edits) → SweepGiven v b edit next → StepGiven v b sweeping next
+  appended : {kind x y : ℕ} {next : Bench} (edit : v .Edits) → AppendGiven v b kind x y edit next → StepGiven v b (appending kind x y) next
   reported : (r : v .Reports) → ReportGiven v b r → StepGiven v b reporting b
   stored : {room : List ℕ} (r : v .Writings) (out : List ℕ) → StoreGiven v b room r out → StepGiven v b (storing room) b
 

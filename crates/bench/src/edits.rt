@@ -44,7 +44,7 @@ fn without_rework(bench: Bench, answer: Answer) -> Edited
 }
 
 // A refused edit: the bench stays as it was.
-fn refused(bench: Bench, why: Refusal) -> Edited
+pub(crate) fn refused(bench: Bench, why: Refusal) -> Edited
     ensures { λ r. ⌜ r ≡ unreworked bench (Refused why) ⌝ }
 {
     without_rework(bench, Answer::Refused(why))

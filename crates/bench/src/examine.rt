@@ -22,7 +22,7 @@ use circuit::low16;
 use targets::wanted::input_words;
 
 // The greater of two AND depths, and one more for a nonlinear gate.
-fn and_deeper(kind: u8, a: u8, b: u8) -> u8
+pub(crate) fn and_deeper(kind: u8, a: u8, b: u8) -> u8
     ensures { λ r. ⌜ (max a b < 255 → r ≡ max a b + nonlinear (kindOf kind)) ⌝ }
 {
     let top = if a < b { b } else { a };
@@ -90,7 +90,8 @@ fn is_reached(own: bool, a: bool, b: bool) -> bool
 
 // Replaces gate k where it was looked at and nothing is refused. The line of gate k and each line that reads it, directly
 // or through others, is examined again and listed, whether or not its values change. One bench is changed, or left, and
-// given back at one place: two would cost a copy more. Arrays that the loop only reads are copied once.
+// given back at one place: two would cost a copy more. Arrays that the loop only reads are copied once. It has one caller:
+// with two it would be compiled as a call of its own, and the bench copied in and out of it.
 pub(crate) fn rework(b: Bench, look: Answer, k: usize, kind: u8, first: u16, second: u16) -> Edited
     requires { ⌜ (look ≡ Done → (b .n ≤ mostInputs) × (b .g ≤ mostGates) × (k < b .g)) ⌝ }
     ensures { λ r. ⌜ Reworked look b k kind first second r ⌝ }

@@ -10,6 +10,8 @@ use circuit::Words;
 
 pub mod opening; // opening.rt: an empty bench, and opening a circuit with its target and limits
 pub mod edits; // edits.rt: replacing a gate, pointing an output, changing an entry, setting limits
+pub mod appending; // appending.rt: one gate more after the last
+pub mod sweeping; // sweeping.rt: the sweep of what stands on the bench
 pub mod storing; // storing.rt: the circuit's stored bytes into a lent room
 mod examine; // examine.rt: what each line has, afresh or for the readers of one gate
 

@@ -19,7 +19,7 @@ use Rattle.bench.specs.declared.Reported.the-variants.{Given, NotGiven}
 use Rattle.bench.specs.declared.Opened.{Opened}
 use Rattle.bench.specs.declared.Edited.{Edited}
 use Rattle.bench.specs.State.{Limits}
-use Rattle.bench.specs.Calls.{View, OpenGiven, GateGiven, OutputGiven, EntryGiven, LimitsGiven, ReportGiven, StoreGiven}
+use Rattle.bench.specs.Calls.{View, OpenGiven, GateGiven, OutputGiven, EntryGiven, LimitsGiven, SweepGiven, AppendGiven, ReportGiven, StoreGiven}
 use Rattle.bench.specs.Run.{Call, StepGiven, Step, RunsBy}
 use Rattle.coded.specs.declared.Opened.{Opened as OpenedNumbers}
 use Rattle.coded.specs.declared.Edited.{Edited as EditedNumbers}
@@ -113,6 +113,14 @@ EntryCode = EntryGiven asNumbers
 -- of setting the limits
 abbrev pub LimitsCode : Bench → Limits → EditNumbers → Bench → Type 0
 LimitsCode = LimitsGiven asNumbers
+
+-- of a sweep
+abbrev pub SweepCode : Bench → EditNumbers → Bench → Type 0
+SweepCode = SweepGiven asNumbers
+
+-- of appending a gate
+abbrev pub AppendCode : Bench → ℕ → ℕ → ℕ → EditNumbers → Bench → Type 0
+AppendCode = AppendGiven asNumbers
 
 -- of a report
 abbrev pub ReportCodePromise : Bench → ReportNumbers → Type 0

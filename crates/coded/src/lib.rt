@@ -3,13 +3,15 @@ ghost use mathlib.Core.Path.{_≡_};
 ghost use Rattle.circuit.specs.Rules.{answerNo};
 ghost use Rattle.targets.specs.Target.{matrix, table};
 ghost use Rattle.bench.specs.State.{limits};
-ghost use Rattle.coded.specs.Coded.{openCoded, editCoded, verdictCode, reportCode, refusedCode, drawnCode, OpenCode, GateCode, OutputCode, EntryCode, LimitsCode, ReportCodePromise, StoreCode, EquationsCode};
+ghost use Rattle.coded.specs.Coded.{openCoded, editCoded, verdictCode, reportCode, refusedCode, drawnCode, OpenCode, GateCode, OutputCode, EntryCode, LimitsCode, SweepCode, AppendCode, ReportCodePromise, StoreCode, EquationsCode};
 use bench::Bench;
 use bench::Report;
 use bench::Reported;
 use bench::Verdict;
+use bench::appending;
 use bench::edits;
 use bench::opening;
+use bench::sweeping;
 use circuit::Answer;
 use circuit::LINES;
 use circuit::refusal_no;
@@ -144,6 +146,20 @@ pub fn set_limits(bench: Bench, gates: u8, depth: u8, ands: u8) -> Edited
     ensures { λ r. ⌜ LimitsCode bench (limits gates depth ands) (r .edit) (r .bench) ⌝ }
 {
     edit_numbers(edits::set_limits(bench, gates, depth, ands))
+}
+
+// Drops the gates that no output reaches, and merges those that are the same.
+pub fn sweep(bench: Bench) -> Edited
+    ensures { λ r. ⌜ SweepCode bench (r .edit) (r .bench) ⌝ }
+{
+    edit_numbers(sweeping::sweep(bench))
+}
+
+// Appends a gate after the last one.
+pub fn append_gate(bench: Bench, kind: usize, a: usize, b: usize) -> Edited
+    ensures { λ r. ⌜ AppendCode bench kind a b (r .edit) (r .bench) ⌝ }
+{
+    edit_numbers(appending::append_gate(bench, kind, a, b))
 }
 
 // A verdict in three numbers.

@@ -1,7 +1,7 @@
 // The outer calls, on a bench that is lent to be changed where it stands. Each is thin: the form by value does the work.
 ghost use Rattle.targets.specs.Target.{matrix, table};
 ghost use Rattle.bench.specs.State.{limits};
-ghost use Rattle.bench.specs.Calls.{OpenPromise, GatePromise, OutputPromise, EntryPromise, LimitsPromise, ReportPromise, StorePromise};
+ghost use Rattle.bench.specs.Calls.{OpenPromise, GatePromise, OutputPromise, EntryPromise, LimitsPromise, SweepPromise, AppendPromise, ReportPromise, StorePromise};
 use bench::Bench;
 use bench::Edit;
 use bench::Reported;
@@ -74,6 +74,24 @@ pub fn set_limits(bench: &mut Bench, gates: u8, depth: u8, ands: u8) -> Edit
     ensures { λ r. ⌜ LimitsPromise (now (bench .entry)) (limits gates depth ands) r (now (bench .exit)) ⌝ }
 {
     let done = bench::edits::set_limits(*bench, gates, depth, ands);
+    *bench = done.bench;
+    done.edit
+}
+
+// Drops the gates that no output reaches, and merges those that are the same. The answer lists the lines of those kept.
+pub fn sweep(bench: &mut Bench) -> Edit
+    ensures { λ r. ⌜ SweepPromise (now (bench .entry)) r (now (bench .exit)) ⌝ }
+{
+    let done = bench::sweeping::sweep(*bench);
+    *bench = done.bench;
+    done.edit
+}
+
+// Appends a gate after the last one. The answer lists its line.
+pub fn append_gate(bench: &mut Bench, kind: usize, a: usize, b: usize) -> Edit
+    ensures { λ r. ⌜ AppendPromise (now (bench .entry)) kind a b r (now (bench .exit)) ⌝ }
+{
+    let done = bench::appending::append_gate(*bench, kind, a, b);
     *bench = done.bench;
     done.edit
 }

@@ -5,7 +5,7 @@ ghost use Rattle.distance.specs.Query.{distanceCode, answerOf};
 ghost use Rattle.builder.specs.Call.{BuildsNumbered};
 ghost use Rattle.targets.specs.Target.{matrix, table};
 ghost use Rattle.bench.specs.State.{limits};
-ghost use Rattle.coded.specs.Coded.{OpenCode, GateCode, OutputCode, EntryCode, LimitsCode, ReportCodePromise, StoreCode, EquationsCode};
+ghost use Rattle.coded.specs.Coded.{OpenCode, GateCode, OutputCode, EntryCode, LimitsCode, SweepCode, AppendCode, ReportCodePromise, StoreCode, EquationsCode};
 use bench::Bench;
 use coded::EditNumbers;
 use coded::ReadingNumbers;
@@ -92,6 +92,31 @@ pub extern "C" fn allpawasi_set_limits(
     ensures { λ r. ⌜ LimitsCode (now (bench .entry)) (limits gates depth ands) r (now (bench .exit)) ⌝ }
 {
     let done = coded::set_limits(*bench, gates, depth, ands);
+    *bench = done.bench;
+    done.edit
+}
+
+// Drops the gates that no output reaches, and merges those that are the same. The answer lists the lines of those kept.
+#[no_mangle]
+pub extern "C" fn allpawasi_sweep(bench: &mut Bench) -> EditNumbers
+    ensures { λ r. ⌜ SweepCode (now (bench .entry)) r (now (bench .exit)) ⌝ }
+{
+    let done = coded::sweep(*bench);
+    *bench = done.bench;
+    done.edit
+}
+
+// Appends a gate after the last one. The answer lists its line.
+#[no_mangle]
+pub extern "C" fn allpawasi_append_gate(
+    bench: &mut Bench,
+    kind: usize,
+    a: usize,
+    b: usize,
+) -> EditNumbers
+    ensures { λ r. ⌜ AppendCode (now (bench .entry)) kind a b r (now (bench .exit)) ⌝ }
+{
+    let done = coded::append_gate(*bench, kind, a, b);
     *bench = done.bench;
     done.edit
 }

@@ -4,7 +4,7 @@ use mathlib.Core.List.{List, [], _∷_, map}
 use Prim.Native.Nat.{ℕ}
 use Rattle.text.specs.Places.{leading, headWord, tailWords, sameList}
 use Rattle.text.specs.Numbers.{numFrom, allHex, hexBytes}
-use Rattle.script.specs.Order.{Order, silent, unreadable, askOpenTable, askGate, askLimits, askStore, askBuild, askDistance, askEquations}
+use Rattle.script.specs.Order.{Order, silent, unreadable, askOpenTable, askGate, askLimits, askSweep, askAppend, askStore, askBuild, askDistance, askEquations}
 use Rattle.script.specs.Reading.{number, limit, isPairs, hex, kind, noMore, byWord, orderIn}
 
 -- lines, and what each asks
@@ -24,6 +24,14 @@ examples =
     (108 ∷ 105 ∷ 109 ∷ 105 ∷ 116 ∷ 115 ∷ 32 ∷ 50 ∷ 53 ∷ 53 ∷ 32 ∷ 48 ∷ 32 ∷ 49 ∷ [], askLimits 255 0 1) ∷
     -- limits 256 0 1
     (108 ∷ 105 ∷ 109 ∷ 105 ∷ 116 ∷ 115 ∷ 32 ∷ 50 ∷ 53 ∷ 54 ∷ 32 ∷ 48 ∷ 32 ∷ 49 ∷ [], unreadable) ∷
+    -- sweep
+    (115 ∷ 119 ∷ 101 ∷ 101 ∷ 112 ∷ [], askSweep) ∷
+    -- sweep 1
+    (115 ∷ 119 ∷ 101 ∷ 101 ∷ 112 ∷ 32 ∷ 49 ∷ [], unreadable) ∷
+    -- append 6 300 0
+    (97 ∷ 112 ∷ 112 ∷ 101 ∷ 110 ∷ 100 ∷ 32 ∷ 54 ∷ 32 ∷ 51 ∷ 48 ∷ 48 ∷ 32 ∷ 48 ∷ [], askAppend 6 300 0) ∷
+    -- append 6 300
+    (97 ∷ 112 ∷ 112 ∷ 101 ∷ 110 ∷ 100 ∷ 32 ∷ 54 ∷ 32 ∷ 51 ∷ 48 ∷ 48 ∷ [], unreadable) ∷
     -- store 18446744073709551615
     (115 ∷ 116 ∷ 111 ∷ 114 ∷ 101 ∷ 32 ∷ 49 ∷ 56 ∷ 52 ∷ 52 ∷ 54 ∷ 55 ∷ 52 ∷ 52 ∷ 48 ∷ 55 ∷ 51 ∷ 55 ∷ 48 ∷ 57 ∷ 53 ∷ 53 ∷ 49 ∷ 54 ∷ 49 ∷ 53 ∷ [], askStore 18446744073709551615) ∷
     -- store 18446744073709551616

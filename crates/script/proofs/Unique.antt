@@ -7,8 +7,8 @@ use lib.ListN.{length, drop, length-drop, length-take}
 use Rattle.text.proofs.Numbers.{bytes-length}
 use Rattle.script.specs.declared.Part.{Part}
 use Rattle.script.specs.declared.Call.{Call}
-use Rattle.script.specs.declared.Call.the-variants.{Silent, Unreadable, New, OpenMatrix, OpenTable, Report, Gate, Output, Entry, Limits, Store, Held, Show, Build, Distance, Equations}
-use Rattle.script.specs.Order.{Order, silent, unreadable, askNew, askOpenMatrix, askOpenTable, askReport, askGate, askOutput, askEntry, askLimits, askStore, askHeld, askShow, askBuild, askDistance, askEquations, digitsOf, bytesOf, orderOf}
+use Rattle.script.specs.declared.Call.the-variants.{Silent, Unreadable, New, OpenMatrix, OpenTable, Report, Gate, Output, Entry, Limits, Sweep, Append, Store, Held, Show, Build, Distance, Equations}
+use Rattle.script.specs.Order.{Order, silent, unreadable, askNew, askOpenMatrix, askOpenTable, askReport, askGate, askOutput, askEntry, askLimits, askSweep, askAppend, askStore, askHeld, askShow, askBuild, askDistance, askEquations, digitsOf, bytesOf, orderOf}
 use Rattle.script.specs.Placed.{HexPart, Placed, afterWords, Follows, Means}
 
 -- the part that says some bytes just before the rest of the line after k words
@@ -39,6 +39,8 @@ callFor line (askGate k kind a b) = Gate (record { k = k; kind = kind; a = a; b 
 callFor line (askOutput j to) = Output (record { j = j; line = to })
 callFor line (askEntry i value) = Entry (record { i = i; value = value })
 callFor line (askLimits g d a) = Limits (record { gates = g; depth = d; ands = a })
+callFor line askSweep = Sweep
+callFor line (askAppend kind a b) = Append (record { kind = kind; a = a; b = b })
 callFor line (askStore room) = Store room
 callFor line askHeld = Held
 callFor line askShow = Show
@@ -61,6 +63,8 @@ call-is line (Gate e) p f = refl
 call-is line (Output e) p f = refl
 call-is line (Entry e) p f = refl
 call-is line (Limits e) p f = refl
+call-is line Sweep p f = refl
+call-is line (Append e) p f = refl
 call-is line (Store room) p f = refl
 call-is line Held p f = refl
 call-is line Show p f = refl

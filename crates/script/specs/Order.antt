@@ -5,7 +5,7 @@ use lib.ListN.{take, drop}
 use Rattle.text.specs.Numbers.{hexBytes}
 use Rattle.script.specs.declared.Part.{Part}
 use Rattle.script.specs.declared.Call.{Call}
-use Rattle.script.specs.declared.Call.the-variants.{Silent, Unreadable, New, OpenMatrix, OpenTable, Report, Gate, Output, Entry, Limits, Store, Held, Show, Build, Distance, Equations}
+use Rattle.script.specs.declared.Call.the-variants.{Silent, Unreadable, New, OpenMatrix, OpenTable, Report, Gate, Output, Entry, Limits, Sweep, Append, Store, Held, Show, Build, Distance, Equations}
 
 -- what a line asks; the arguments are those of the call, in the order in which they are typed
 pub data Order : Type 0 where
@@ -19,6 +19,8 @@ pub data Order : Type 0 where
   askOutput : (j line : ℕ) → Order
   askEntry : (i value : ℕ) → Order
   askLimits : (gates depth ands : ℕ) → Order
+  askSweep : Order
+  askAppend : (kind a b : ℕ) → Order
   askStore : (room : ℕ) → Order
   askHeld : Order
   askShow : Order
@@ -46,6 +48,8 @@ orderOf line (Gate e) = askGate (e .k) (e .kind) (e .a) (e .b)
 orderOf line (Output e) = askOutput (e .j) (e .line)
 orderOf line (Entry e) = askEntry (e .i) (e .value)
 orderOf line (Limits e) = askLimits (e .gates) (e .depth) (e .ands)
+orderOf line Sweep = askSweep
+orderOf line (Append e) = askAppend (e .kind) (e .a) (e .b)
 orderOf line (Store room) = askStore room
 orderOf line Held = askHeld
 orderOf line Show = askShow

@@ -8,7 +8,7 @@ use Rattle.text.specs.Places.{tailWords}
 use Rattle.text.specs.Numbers.{allHex}
 use Rattle.script.specs.declared.Part.{Part}
 use Rattle.script.specs.declared.Call.{Call}
-use Rattle.script.specs.declared.Call.the-variants.{Silent, Unreadable, New, OpenMatrix, OpenTable, Report, Gate, Output, Entry, Limits, Store, Held, Show, Build, Distance, Equations}
+use Rattle.script.specs.declared.Call.the-variants.{Silent, Unreadable, New, OpenMatrix, OpenTable, Report, Gate, Output, Entry, Limits, Sweep, Append, Store, Held, Show, Build, Distance, Equations}
 use Rattle.script.specs.Order.{Order, digitsOf, orderOf}
 
 -- a part of pairs of hexadecimal digits, within a line that is not too long
@@ -37,6 +37,8 @@ Placed line (Gate e) = Unit
 Placed line (Output e) = Unit
 Placed line (Entry e) = Unit
 Placed line (Limits e) = Unit
+Placed line Sweep = Unit
+Placed line (Append e) = Unit
 Placed line (Store room) = Unit
 Placed line Held = Unit
 Placed line Show = Unit
@@ -61,6 +63,8 @@ Follows line (Gate e) = Unit
 Follows line (Output e) = Unit
 Follows line (Entry e) = Unit
 Follows line (Limits e) = Unit
+Follows line Sweep = Unit
+Follows line (Append e) = Unit
 Follows line (Store room) = Unit
 Follows line Held = Unit
 Follows line Show = Unit

@@ -8,7 +8,7 @@ use Rattle.text.specs.declared.Number.{Number}
 use Rattle.text.specs.declared.Number.the-variants.{Value, Not}
 use Rattle.text.specs.Places.{headWord, tailWords, sameList}
 use Rattle.text.specs.Numbers.{numberIn, allHex, hexBytes}
-use Rattle.script.specs.Order.{Order, silent, unreadable, askNew, askOpenMatrix, askOpenTable, askReport, askGate, askOutput, askEntry, askLimits, askStore, askHeld, askShow, askBuild, askDistance, askEquations}
+use Rattle.script.specs.Order.{Order, silent, unreadable, askNew, askOpenMatrix, askOpenTable, askReport, askGate, askOutput, askEntry, askLimits, askSweep, askAppend, askStore, askHeld, askShow, askBuild, askDistance, askEquations}
 
 -- what the rest of a line asks
 abbrev pub Rest : Type 0
@@ -81,6 +81,10 @@ entryRest = number (λ i. number (λ value. noMore (askEntry i value)))
 abbrev pub limitsRest : Rest
 limitsRest = limit (λ g. limit (λ d. limit (λ a. noMore (askLimits g d a))))
 
+-- `append KIND A B`
+abbrev pub appendRest : Rest
+appendRest = number (λ t. number (λ a. number (λ b. noMore (askAppend t a b))))
+
 -- `store ROOM`
 abbrev pub storeRest : Rest
 storeRest = number (λ room. noMore (askStore room))
@@ -113,6 +117,10 @@ heldWord = 104 ∷ 101 ∷ 108 ∷ 100 ∷ []
 abbrev pub showWord : List ℕ
 showWord = 115 ∷ 104 ∷ 111 ∷ 119 ∷ []
 
+-- the word `sweep`
+abbrev pub sweepWord : List ℕ
+sweepWord = 115 ∷ 119 ∷ 101 ∷ 101 ∷ 112 ∷ []
+
 -- the word `gate`
 abbrev pub gateWord : List ℕ
 gateWord = 103 ∷ 97 ∷ 116 ∷ 101 ∷ []
@@ -128,6 +136,10 @@ entryWord = 101 ∷ 110 ∷ 116 ∷ 114 ∷ 121 ∷ []
 -- the word `limits`
 abbrev pub limitsWord : List ℕ
 limitsWord = 108 ∷ 105 ∷ 109 ∷ 105 ∷ 116 ∷ 115 ∷ []
+
+-- the word `append`
+abbrev pub appendWord : List ℕ
+appendWord = 97 ∷ 112 ∷ 112 ∷ 101 ∷ 110 ∷ 100 ∷ []
 
 -- the word `open`
 abbrev pub openWord : List ℕ
@@ -165,11 +177,11 @@ bytesCalls =
 
 -- those, and edits
 abbrev pub editCalls : Table
-editCalls = (gateWord, gateRest) ∷ (outputWord, outputRest) ∷ (entryWord, entryRest) ∷ (limitsWord, limitsRest) ∷ bytesCalls
+editCalls = (gateWord, gateRest) ∷ (outputWord, outputRest) ∷ (entryWord, entryRest) ∷ (limitsWord, limitsRest) ∷ (appendWord, appendRest) ∷ bytesCalls
 
 -- those, and calls of one word: the whole language
 abbrev pub calls : Table
-calls = (newWord, noMore askNew) ∷ (reportWord, noMore askReport) ∷ (heldWord, noMore askHeld) ∷ (showWord, noMore askShow) ∷ editCalls
+calls = (newWord, noMore askNew) ∷ (reportWord, noMore askReport) ∷ (heldWord, noMore askHeld) ∷ (showWord, noMore askShow) ∷ (sweepWord, noMore askSweep) ∷ editCalls
 
 -- what a line asks: nothing where it is blank or its first byte is `#`; too long a line is unreadable whatever it says
 unfoldable pub orderIn : List ℕ → Order

@@ -1,4 +1,5 @@
 // A function for each call, over the words after the first.
+use crate::AppendEdit;
 use crate::BuildCall;
 use crate::Call;
 use crate::DistanceCall;
@@ -17,7 +18,7 @@ use crate::words::number_at;
 ghost use mathlib.Core.Path.{_≡_};
 ghost use mathlib.Core.Bool.{Bool};
 ghost use Rattle.script.specs.Order.{orderOf};
-ghost use Rattle.script.specs.Reading.{openRest, gateRest, outputRest, entryRest, limitsRest, storeRest, buildRest, distanceRest, equationsRest, noMore};
+ghost use Rattle.script.specs.Reading.{openRest, gateRest, outputRest, entryRest, limitsRest, appendRest, storeRest, buildRest, distanceRest, equationsRest, noMore};
 ghost use Rattle.script.specs.Placed.{Placed, Follows, Means};
 ghost use Rattle.script.specs.Cursors.{onward, Within, Second};
 
@@ -118,6 +119,22 @@ pub(crate) fn read_limits(line: &[u8], here: Cursor) -> Call
         ands: ands.value,
     };
     finish(line, ands.rest, Call::Limits(edit))
+}
+
+// `append KIND A B`.
+pub(crate) fn read_append(line: &[u8], here: Cursor) -> Call
+    requires { ⌜ Second (now line) here ⌝ }
+    ensures { λ r. ⌜ Means (now (line .entry)) r (onward (now (line .entry)) here appendRest) ⌝ }
+{
+    let kind = number_at(line, here);
+    let first = number_at(line, kind.rest);
+    let second = number_at(line, first.rest);
+    let edit = AppendEdit {
+        kind: kind.value,
+        a: first.value,
+        b: second.value,
+    };
+    finish(line, second.rest, Call::Append(edit))
 }
 
 // `store ROOM`.

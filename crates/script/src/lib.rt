@@ -49,6 +49,13 @@ pub struct LimitsEdit {
     pub ands: u8,
 }
 
+// `append KIND A B`.
+pub struct AppendEdit {
+    pub kind: usize,
+    pub a: usize,
+    pub b: usize,
+}
+
 // `build N ROWSHEX D ROOM`.
 pub struct BuildCall {
     pub n: usize,
@@ -84,6 +91,8 @@ pub enum Call {
     Output(OutputEdit),
     Entry(EntryEdit),
     Limits(LimitsEdit),
+    Sweep,
+    Append(AppendEdit),
     Store(usize),
     Held,
     Show,
@@ -135,6 +144,9 @@ fn edit_call(word: &[u8], line: &[u8], rest: Cursor) -> Call
     if text::same(word, b"limits") {
         return calls::read_limits(line, rest);
     }
+    if text::same(word, b"append") {
+        return calls::read_append(line, rest);
+    }
     bytes_call(word, line, rest)
 }
 
@@ -154,6 +166,9 @@ fn any_call(word: &[u8], line: &[u8], rest: Cursor) -> Call
     }
     if text::same(word, b"show") {
         return calls::finish(line, rest, Call::Show);
+    }
+    if text::same(word, b"sweep") {
+        return calls::finish(line, rest, Call::Sweep);
     }
     edit_call(word, line, rest)
 }

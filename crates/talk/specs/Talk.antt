@@ -12,11 +12,11 @@ use Rattle.targets.specs.Target.{matrix, table}
 use Rattle.bench.specs.declared.Bench.{Bench}
 use Rattle.bench.specs.State.{Present, nothing, limits}
 use Rattle.bench.specs.Held.{benchOf, Stands}
-use Rattle.bench.specs.Calls.{openAnswer, gateEdit, outputEditAnswer, entryEditAnswer, limitsAnswer, noRework, reported, storeAnswer, storedOf}
+use Rattle.bench.specs.Calls.{openAnswer, gateEdit, outputEditAnswer, entryEditAnswer, limitsAnswer, noRework, sweepEdit, appendEdit, reported, storeAnswer, storedOf}
 use Rattle.bench.specs.Run.{Call, presentFrom}
-use Rattle.bench.specs.Run.Call.{opening, replacing, pointing, changing, limiting, reporting, storing}
+use Rattle.bench.specs.Run.Call.{opening, replacing, pointing, changing, limiting, sweeping, appending, reporting, storing}
 use Rattle.listing.specs.Printed.{unreadableText}
-use Rattle.script.specs.Order.{Order, silent, unreadable, askNew, askOpenMatrix, askOpenTable, askReport, askGate, askOutput, askEntry, askLimits, askStore, askHeld, askShow, askBuild, askDistance, askEquations}
+use Rattle.script.specs.Order.{Order, silent, unreadable, askNew, askOpenMatrix, askOpenTable, askReport, askGate, askOutput, askEntry, askLimits, askSweep, askAppend, askStore, askHeld, askShow, askBuild, askDistance, askEquations}
 use Rattle.script.specs.Reading.{orderIn}
 use Rattle.talk.specs.declared.Told.{Told}
 use Rattle.talk.specs.Words.{newText, storedName, builtName}
@@ -40,6 +40,8 @@ deedOf (askGate k kind a b) = calling (replacing k kind a b ∷ [])
 deedOf (askOutput j line) = calling (pointing j line ∷ [])
 deedOf (askEntry i value) = calling (changing i value ∷ [])
 deedOf (askLimits g d a) = calling (limiting (limits g d a) ∷ [])
+deedOf askSweep = calling (sweeping ∷ [])
+deedOf (askAppend kind a b) = calling (appending kind a b ∷ [])
 deedOf (askStore room) = calling (storing (replicate room 0) ∷ [])
 deedOf askHeld = calling []
 deedOf askShow = calling []
@@ -68,6 +70,8 @@ textOf p (askGate k kind a b) = editText (gateEdit p k kind a b)
 textOf p (askOutput j line) = editText (noRework (outputEditAnswer p j line))
 textOf p (askEntry i value) = editText (noRework (entryEditAnswer p i value))
 textOf p (askLimits g d a) = editText (noRework (limitsAnswer p))
+textOf p askSweep = editText (sweepEdit p)
+textOf p (askAppend kind a b) = editText (appendEdit p kind a b)
 textOf p (askStore room) = writtenText storedName (storeAnswer p room) (storedOf p)
 textOf p askHeld = heldText p
 textOf p askShow = showText p

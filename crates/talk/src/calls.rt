@@ -7,7 +7,7 @@ ghost use Rattle.targets.specs.Target.{targetOf};
 ghost use Rattle.bench.specs.Calls.{OpenPromise};
 ghost use Rattle.bench.specs.State.{limits};
 ghost use Rattle.script.specs.Reading.{askOpen};
-ghost use Rattle.script.specs.Order.{bytesOf, unreadable, askNew, askReport, askGate, askOutput, askEntry, askLimits, askStore, askHeld, askShow, askBuild, askDistance, askEquations};
+ghost use Rattle.script.specs.Order.{bytesOf, unreadable, askNew, askReport, askGate, askOutput, askEntry, askLimits, askSweep, askAppend, askStore, askHeld, askShow, askBuild, askDistance, askEquations};
 ghost use Rattle.script.specs.Placed.{HexPart, HexParts};
 ghost use Rattle.talk.specs.Texts.{editText, openText};
 ghost use Rattle.talk.specs.Talk.{Answers};
@@ -28,6 +28,7 @@ use crate::show::say_show;
 use bench::Bench;
 use bench::Edited;
 use bench::Opened;
+use bench::appending::append_gate;
 use bench::edits::change_entry;
 use bench::edits::point_output;
 use bench::edits::replace_gate;
@@ -37,9 +38,11 @@ use bench::opening::open_matrix;
 use bench::opening::open_table;
 use bench::storing::circuit_of;
 use bench::storing::store;
+use bench::sweeping::sweep;
 use builder::build;
 use drawing::Drawn;
 use report::report;
+use script::AppendEdit;
 use script::BuildCall;
 use script::DistanceCall;
 use script::EntryEdit;
@@ -177,6 +180,20 @@ pub(crate) fn tell_limits(b: Bench, e: LimitsEdit, out: &mut [u8; OUT]) -> Told
     ensures { λ r. ⌜ Answers b (askLimits (e .gates) (e .depth) (e .ands)) (now (out .entry)) (now (out .exit)) r ⌝ }
 {
     told_edit(set_limits(b, e.gates, e.depth, e.ands), out)
+}
+
+// `sweep`.
+pub(crate) fn tell_sweep(b: Bench, out: &mut [u8; OUT]) -> Told
+    ensures { λ r. ⌜ Answers b askSweep (now (out .entry)) (now (out .exit)) r ⌝ }
+{
+    told_edit(sweep(b), out)
+}
+
+// `append KIND A B`.
+pub(crate) fn tell_append(b: Bench, e: AppendEdit, out: &mut [u8; OUT]) -> Told
+    ensures { λ r. ⌜ Answers b (askAppend (e .kind) (e .a) (e .b)) (now (out .entry)) (now (out .exit)) r ⌝ }
+{
+    told_edit(append_gate(b, e.kind, e.a, e.b), out)
 }
 
 // What is stored stands first in the room: a longer one than any stored form needs is lent no longer than that.

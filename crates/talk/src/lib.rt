@@ -43,6 +43,8 @@ pub fn answer_line(b: Bench, line: &[u8], out: &mut [u8; OUT]) -> Told
         Call::Output(e) => calls::tell_output(b, e, out),
         Call::Entry(e) => calls::tell_entry(b, e, out),
         Call::Limits(e) => calls::tell_limits(b, e, out),
+        Call::Sweep => calls::tell_sweep(b, out),
+        Call::Append(e) => calls::tell_append(b, e, out),
         Call::Store(size) => calls::tell_store(b, size, out),
         Call::Held => calls::tell_held(b, out),
         Call::Show => calls::tell_show(b, out),

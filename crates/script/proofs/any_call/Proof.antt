@@ -64,17 +64,36 @@ returns-4 c =
     (is-other (e3 .before .same3 .ensures) (e3 .if3 .left)
     (is-word (c .before .before .same4 .ensures) (c .before .if4 .taken) (c .finish4 .ensures))))) .means
 
-edit-call-requires : tie.Need-edit-call-requires
-edit-call-requires c κs = search needs
+slice-aggregate-same-5 : tie.Need-slice-aggregate-same-5
+slice-aggregate-same-5 c = search needs
+
+same-requires-5 : tie.Need-same-requires-5
+same-requires-5 c κs = search needs
+
+finish-requires-5 : tie.Need-finish-requires-5
+finish-requires-5 c κs = search needs
 
 returns-5 : tie.Need-returns-5
 returns-5 c =
-    let e4 = c .before in let e3 = e4 .before .before .before in let e2 = e3 .before .before .before in let e1 = e2 .before .before .before in
+    let e4 = c .before .before .before .before in let e3 = e4 .before .before .before in let e2 = e3 .before .before .before in let e1 = e2 .before .before .before in
     (is-other (e1 .before .same .ensures) (e1 .if1 .left)
     (is-other (e2 .before .same2 .ensures) (e2 .if2 .left)
     (is-other (e3 .before .same3 .ensures) (e3 .if3 .left)
     (is-other (e4 .before .same4 .ensures) (e4 .if4 .left)
-    (record { means = c .edit-call .ensures }))))) .means
+    (is-word (c .before .before .same5 .ensures) (c .before .if5 .taken) (c .finish5 .ensures)))))) .means
+
+edit-call-requires : tie.Need-edit-call-requires
+edit-call-requires c κs = search needs
+
+returns-6 : tie.Need-returns-6
+returns-6 c =
+    let e5 = c .before in let e4 = e5 .before .before .before in let e3 = e4 .before .before .before in let e2 = e3 .before .before .before in let e1 = e2 .before .before .before in
+    (is-other (e1 .before .same .ensures) (e1 .if1 .left)
+    (is-other (e2 .before .same2 .ensures) (e2 .if2 .left)
+    (is-other (e3 .before .same3 .ensures) (e3 .if3 .left)
+    (is-other (e4 .before .same4 .ensures) (e4 .if4 .left)
+    (is-other (e5 .before .same5 .ensures) (e5 .if5 .left)
+    (record { means = c .edit-call .ensures })))))) .means
 
 pub any-call-spec : {M : Type 1} → statement M
 any-call-spec =
@@ -96,5 +115,9 @@ any-call-spec =
     same-requires-4
     finish-requires-4
     returns-4
+    slice-aggregate-same-5
+    same-requires-5
+    finish-requires-5
+    returns-5
     edit-call-requires
-    returns-5)
+    returns-6)

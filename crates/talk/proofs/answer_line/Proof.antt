@@ -77,41 +77,53 @@ enum-known-call-6 c = search needs
 tell-limits-requires : tie.Need-tell-limits-requires
 tell-limits-requires c κs = search needs
 
-enum-known-call-7 : tie.Need-enum-known-call-7
-enum-known-call-7 c = search needs
-
-tell-store-requires : tie.Need-tell-store-requires
-tell-store-requires c κs = search needs
-
 enum-told-5 : tie.Need-enum-told-5
 enum-told-5 c = search needs
 
-tell-held-requires : tie.Need-tell-held-requires
-tell-held-requires c κs = search needs
+tell-sweep-requires : tie.Need-tell-sweep-requires
+tell-sweep-requires c κs = search needs
 
-enum-told-6 : tie.Need-enum-told-6
-enum-told-6 c = search needs
+enum-known-call-7 : tie.Need-enum-known-call-7
+enum-known-call-7 c = search needs
 
-tell-show-requires : tie.Need-tell-show-requires
-tell-show-requires c κs = search needs
+tell-append-requires : tie.Need-tell-append-requires
+tell-append-requires c κs = search needs
 
 enum-known-call-8 : tie.Need-enum-known-call-8
 enum-known-call-8 c = search needs
 
-tell-build-requires : tie.Need-tell-build-requires
-tell-build-requires c κs = placed (c .before .before .before .before) _ (c .before .before .call8 .given .1)
+tell-store-requires : tie.Need-tell-store-requires
+tell-store-requires c κs = search needs
+
+enum-told-6 : tie.Need-enum-told-6
+enum-told-6 c = search needs
+
+tell-held-requires : tie.Need-tell-held-requires
+tell-held-requires c κs = search needs
+
+enum-told-7 : tie.Need-enum-told-7
+enum-told-7 c = search needs
+
+tell-show-requires : tie.Need-tell-show-requires
+tell-show-requires c κs = search needs
 
 enum-known-call-9 : tie.Need-enum-known-call-9
 enum-known-call-9 c = search needs
 
-tell-distance-requires : tie.Need-tell-distance-requires
-tell-distance-requires c κs = placed (c .before .before .before .before) _ (c .before .before .call9 .given .1)
+tell-build-requires : tie.Need-tell-build-requires
+tell-build-requires c κs = placed (c .before .before .before .before) _ (c .before .before .call9 .given .1)
 
 enum-known-call-10 : tie.Need-enum-known-call-10
 enum-known-call-10 c = search needs
 
+tell-distance-requires : tie.Need-tell-distance-requires
+tell-distance-requires c κs = placed (c .before .before .before .before) _ (c .before .before .call10 .given .1)
+
+enum-known-call-11 : tie.Need-enum-known-call-11
+enum-known-call-11 c = search needs
+
 tell-equations-requires : tie.Need-tell-equations-requires
-tell-equations-requires c κs = placed (c .before .before .before .before) _ (c .before .before .call10 .given .1)
+tell-equations-requires c κs = placed (c .before .before .before .before) _ (c .before .before .call11 .given .1)
 
 returns : tie.Need-returns
 returns c = answers-as (asked (c .before .before) _ (c .enum-told .given .1)) (answers _ (silent-said _) (λ p k. (k .is, refl)))
@@ -144,22 +156,28 @@ returns-10 : tie.Need-returns-10
 returns-10 c = answers-as (asked (c .before .before .before .before .before) _ (c .before .before .before .call6 .given .1)) (c .tell-limits .ensures)
 
 returns-11 : tie.Need-returns-11
-returns-11 c = answers-as (asked (c .before .before .before .before .before) _ (c .before .before .before .call7 .given .1)) (c .tell-store .ensures)
+returns-11 c = answers-as (asked (c .before .before .before .before) _ (c .before .before .enum-told5 .given .1)) (c .tell-sweep .ensures)
 
 returns-12 : tie.Need-returns-12
-returns-12 c = answers-as (asked (c .before .before .before .before) _ (c .before .before .enum-told5 .given .1)) (c .tell-held .ensures)
+returns-12 c = answers-as (asked (c .before .before .before .before .before) _ (c .before .before .before .call7 .given .1)) (c .tell-append .ensures)
 
 returns-13 : tie.Need-returns-13
-returns-13 c = answers-as (asked (c .before .before .before .before) _ (c .before .before .enum-told6 .given .1)) (c .tell-show .ensures)
+returns-13 c = answers-as (asked (c .before .before .before .before .before) _ (c .before .before .before .call8 .given .1)) (c .tell-store .ensures)
 
 returns-14 : tie.Need-returns-14
-returns-14 c = answers-as (asked (c .before .before .before .before .before) _ (c .before .before .before .call8 .given .1)) (c .tell-build .ensures)
+returns-14 c = answers-as (asked (c .before .before .before .before) _ (c .before .before .enum-told6 .given .1)) (c .tell-held .ensures)
 
 returns-15 : tie.Need-returns-15
-returns-15 c = answers-as (asked (c .before .before .before .before .before) _ (c .before .before .before .call9 .given .1)) (c .tell-distance .ensures)
+returns-15 c = answers-as (asked (c .before .before .before .before) _ (c .before .before .enum-told7 .given .1)) (c .tell-show .ensures)
 
 returns-16 : tie.Need-returns-16
-returns-16 c = answers-as (asked (c .before .before .before .before .before) _ (c .before .before .before .call10 .given .1)) (c .tell-equations .ensures)
+returns-16 c = answers-as (asked (c .before .before .before .before .before) _ (c .before .before .before .call9 .given .1)) (c .tell-build .ensures)
+
+returns-17 : tie.Need-returns-17
+returns-17 c = answers-as (asked (c .before .before .before .before .before) _ (c .before .before .before .call10 .given .1)) (c .tell-distance .ensures)
+
+returns-18 : tie.Need-returns-18
+returns-18 c = answers-as (asked (c .before .before .before .before .before) _ (c .before .before .before .call11 .given .1)) (c .tell-equations .ensures)
 
 pub answer-line-spec : {M : Type 1} → statement M
 answer-line-spec =
@@ -185,17 +203,21 @@ answer-line-spec =
     tell-entry-requires
     enum-known-call-6
     tell-limits-requires
-    enum-known-call-7
-    tell-store-requires
     enum-told-5
-    tell-held-requires
-    enum-told-6
-    tell-show-requires
+    tell-sweep-requires
+    enum-known-call-7
+    tell-append-requires
     enum-known-call-8
-    tell-build-requires
+    tell-store-requires
+    enum-told-6
+    tell-held-requires
+    enum-told-7
+    tell-show-requires
     enum-known-call-9
-    tell-distance-requires
+    tell-build-requires
     enum-known-call-10
+    tell-distance-requires
+    enum-known-call-11
     tell-equations-requires
     returns
     returns-2
@@ -212,4 +234,6 @@ answer-line-spec =
     returns-13
     returns-14
     returns-15
-    returns-16)
+    returns-16
+    returns-17
+    returns-18)

@@ -1,18 +1,20 @@
 -- `rework`: the loop keeps `Turn`; a turn stores a line that is reached and leaves one that is not.
 use borrow.Author.Needs.{needs}
-use mathlib.Core.Path.{refl, sym, _∙_, subst, ap}
+use mathlib.Core.Path.{_≡_, refl, sym, _∙_, subst, ap}
 use mathlib.Core.Logic.{⊎-elim}
-use Prim.Native.Nat.{_-_, _≤_, _<_}
+use Prim.Native.Nat.{ℕ, suc, _-_, _≤_, _<_, max}
 use native.Mathlib.Nat.{mod-eq-of-lt}
 use native.Mathlib.Omega.{arith}
 use Rattle.circuit.specs.declared.Answer.{Answer}
+use Rattle.circuit.specs.declared.Answer.the-variants.{Done}
 use Rattle.circuit.specs.Sizes.{mostInputs, mostGates}
 use Rattle.circuit.specs.Structs.{lineIn}
 use Rattle.circuit.proofs.Operands.{second-line}
 use Rattle.bench.specs.declared.Bench.{Bench}
 use Rattle.bench.specs.declared.Edited.{Edited}
 use Rattle.bench.specs.Calls.{noRework}
-use Rattle.bench.specs.Parts.{replaced, Reworked}
+use Rattle.bench.specs.Parts.{regated, Reexamined, Reworked}
+use Rattle.bench.proofs.Regating.{counted}
 use Rattle.bench.proofs.Turn.{Turn, start, hit, miss, done, test-is, moved}
 use Rattle.bench.proofs.examine.rework.Statement.{statement}
 use Rattle.bench.proofs.examine.rework.Tie as tie
@@ -23,9 +25,12 @@ Inv-loop look k kind first second c₀ lines₀ count₀ n g kinds left right ma
 abbrev μ-loop : tie.MeasureT-loop
 μ-loop look k kind first second c₀ lines₀ count₀ n g kinds left right marks₀ j₀ c lines count marks j = g - j
 
--- the bench as the loop finds it
+-- the bench with the gate set, as the promise has it, and as the loop finds it: with as many gates as before
+abbrev set-gate : (c : tie.Start Inv-loop μ-loop) → Bench
+set-gate c = regated (c .args .b) (c .args .k) (c .args .kind) (c .args .first) (c .args .second)
+
 abbrev changed : (c : tie.Start Inv-loop μ-loop) → Bench
-changed c = replaced (c .args .b) (c .args .k) (c .args .kind) (c .args .first) (c .args .second)
+changed c = counted (set-gate c) (c .args .b .g)
 
 enum-told : tie.Need-enum-told Inv-loop μ-loop
 enum-told c = search needs
@@ -184,16 +189,17 @@ loop-again c =
     let i = x .before in
     let h = i .before in
     let s = h .before .before .before .before .before .before in
+    let k = s .args .k in
     let n-most = h .loop .inv .n-most in
     let g-most = h .loop .inv .g-most in
     let ey = y .line-index2 .ensures .0 ∙ ap lineIn (q .second-read .ensures) ∙ second-line _ _ _ in
-    let is = test-is (changed s) (s .args .k) n-most g-most (i .loop-test .taken) (h .loop .inv) (x .line-index .ensures .0) ey in
+    let is = test-is (changed s) k n-most g-most (i .loop-test .taken) (h .loop .inv) (x .line-index .ensures .0) ey in
     ⊎-elim
     (λ w. moved (search needs) (search needs) (search needs) (search needs)
-    (hit (changed s) (s .args .k) n-most g-most (i .loop-test .taken) (h .loop .inv) (sym is ∙ sym (a .is-reached .ensures) ∙ w .0 .taken) (x .line-index .ensures .0) ey
+    (hit (changed s) k n-most g-most (i .loop-test .taken) (h .loop .inv) (sym is ∙ sym (a .is-reached .ensures) ∙ w .0 .taken) (x .line-index .ensures .0) ey
     (record { depth = w .6 .ensures; and = w .9 .ensures; value = w .3 .ensures }) (w .10 .ensures ∙ mod-eq-of-lt (omega (arith, n-most, g-most, i .loop-test .taken)))))
     (λ w. moved (w .1) (w .2) (w .3) (w .4)
-    (miss (changed s) (s .args .k) n-most g-most (i .loop-test .taken) (h .loop .inv) (sym is ∙ sym (a .is-reached .ensures) ∙ w .0 .left)))
+    (miss (changed s) k n-most g-most (i .loop-test .taken) (h .loop .inv) (sym is ∙ sym (a .is-reached .ensures) ∙ w .0 .left)))
     (c .if1 .came)
 
 returns : tie.Need-returns Inv-loop μ-loop
@@ -208,9 +214,11 @@ returns-2 c =
     let t = h .before .before .before .before in
     let s = t .before .before in
     let a = s .args in
+    let e : a .b .g ≡ max (a .b .g) (suc (a .k)) = omega (arith, ok t) in
     let given : Answer → Edited = λ x. record { bench = h .loop .c; edit = record { answer = x; lines = h .loop .lines; count = h .loop .count } } in
     subst (λ (x : Answer). Reworked x (a .b) (a .k) (a .kind) (a .first) (a .second) (given x)) (sym (t .enum-told2 .given .1))
-    (done (changed s) (a .k) (h .loop .inv .n-most) (h .loop .inv .g-most) (c .loop-test .left) (h .loop .inv))
+    (subst (λ (z : Bench). Reexamined z (a .k) (h .loop .c) (given Done .edit)) (λ i. counted (set-gate s) (e i))
+    (done (changed s) (a .k) (h .loop .inv .n-most) (h .loop .inv .g-most) (ok t .2) (c .loop-test .left) (h .loop .inv)))
 
 pub rework-spec : {M : Type 1} → statement M
 rework-spec =
