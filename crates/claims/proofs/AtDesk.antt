@@ -4,21 +4,22 @@
 -- line before left, its answer written, and the bench after the last. `callsTyped` (talk/specs/Talk) are the calls that they make since the last `new`.
 use mathlib.Core.Path.{_≡_, sym, ap, _∙_}
 use mathlib.Core.List.{List, [], _∷_, _++_}
-use Prim.Native.Nat.{ℕ}
-use lib.ListN.{take}
+use Prim.Native.Nat.{ℕ, _+_}
+use lib.ListN.{length, take}
 use Rattle.circuit.specs.declared.Answer.{Answer}
 use Rattle.circuit.specs.declared.Answer.the-variants.{Done}
+use Rattle.sweep.specs.Sweep.{swept}
 use Rattle.drawing.specs.Drawing.{drawnAnswer, drawnBytes}
 use Rattle.bench.specs.declared.Bench.{Bench}
 use Rattle.bench.specs.declared.Edit.{Edit}
 use Rattle.bench.specs.State.{State, Present, nothing, present}
 use Rattle.bench.specs.Held.{emptyBench, benchOf, Stands}
-use Rattle.bench.specs.Calls.{gateEditAnswer, afterGate, gateEdit, editBy, readersOf, sizeOf, reported, GatePromise}
+use Rattle.bench.specs.Calls.{gateEditAnswer, afterGate, gateEdit, editBy, readersOf, sizeOf, sweepEdit, appendAnswer, appendEdit, reported, GatePromise}
 use Rattle.bench.specs.Run.{Call, presentAfter, Runs}
 use Rattle.bench.proofs.Readers.{Lists}
 use Rattle.bench.proofs.RunLaws.{after-calls}
 use Rattle.bench.proofs.Unique.{one-present}
-use Rattle.script.specs.Order.{Order, askNew, askReport, askGate, askEquations}
+use Rattle.script.specs.Order.{Order, askNew, askReport, askGate, askSweep, askAppend, askEquations}
 use Rattle.script.specs.Reading.{orderIn}
 use Rattle.talk.specs.declared.Told.{Told}
 use Rattle.talk.specs.Texts.{acceptedText, reworkedText, reportedText, drawnText}
@@ -26,7 +27,9 @@ use Rattle.talk.specs.Talk.{Deed, calling, deedOf, presentBy, presentAfterLines
 use Rattle.talk.proofs.Sessions.{Session, session-from-empty, sessions-go-on}
 use Rattle.talk.proofs.Typed as typed
 use Rattle.claims.proofs.Tables.{callNo}
+use Rattle.claims.proofs.FirstDemand.{append-answer}
 use Rattle.claims.proofs.ThirdDemand.{refused-nothing, lists-reworked}
+use Rattle.claims.proofs.Sweeping.{EditLists, sweep-lists, append-lists}
 
 -- What is present after lines is what is present after the calls that they make,
 pub typed-present : (lines : List (List ℕ)) → presentAfterLines nothing lines ≡ presentAfter (callsTyped lines)
@@ -88,6 +91,25 @@ module _ {lines : List (List ℕ)} {text : List ℕ} {b : Bench} (session : Sess
             says (askGate k kind x y) e ∙ ap (λ (p : Present). textOf p (askGate k kind x y)) here
                 ∙ ap (λ (a : Answer). acceptedText a (reworkedText (edit .count) (edit .lines))) done,
             lists-reworked typed-is-called s here k kind x y edit next promise done,
+          ),
+        )
+
+    -- `sweep` writes how many gates are kept, and their new lines;
+    pub sweep-writes : (s : State) → now ≡ present s → orderIn line ≡ askSweep
+        → (edit : Edit) × ((bytes ≡ reworkedText (edit .count) (edit .lines)) × EditLists (s .circuit .inputs) (length (swept (s .circuit) .gates)) edit)
+    sweep-writes s here e = (sweepEdit (present s), (says askSweep e ∙ ap (λ (p : Present). textOf p askSweep) here, sweep-lists s))
+
+    -- an accepted `append` writes its one new line.
+    pub append-writes : (s : State) → now ≡ present s → (kind x y : ℕ) → orderIn line ≡ askAppend kind x y → appendAnswer (present s) kind x y ≡ Done
+        → (edit : Edit) × ((bytes ≡ reworkedText (edit .count) (edit .lines)) × EditLists (s .circuit .inputs + length (s .circuit .gates)) 1 edit)
+    append-writes s here kind x y e d =
+        let edit = appendEdit (present s) kind x y in
+        let done = append-answer (present s) kind x y ∙ d in (
+          edit,
+          (
+            says (askAppend kind x y) e ∙ ap (λ (p : Present). textOf p (askAppend kind x y)) here
+                ∙ ap (λ (a : Answer). acceptedText a (reworkedText (edit .count) (edit .lines))) done,
+            append-lists s kind x y d,
           ),
         )
 

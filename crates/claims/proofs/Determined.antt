@@ -4,6 +4,7 @@
 --   circuit:  low16, low_byte, from_byte, no_circuit, gate::{eval_gate, second_read, and_weight, tally}, depth::{deeper, greatest_of, overall_of, depth_of},
 --             rules::{is_shape, check_gate, check_output}, and, in the first half of their promise, wide, wide16, line_index and refusal_no
 --   stored:   reader::read, restore::writing_code
+--   sweep:    sweep
 --   distance: distance, distance_no, refusal_no, table::cost
 --   builder:  plan
 --   formula:  text::{byte_at, span, scan}, names::{low_key, high_key, few_names, look_up}, emit::{gates_in, new_line}, and, in the first half of its
@@ -32,6 +33,7 @@
 --   |   point_output                                           | point-output-determined                           |
 --   |   change_entry                                           | change-entry-determined                           |
 --   |   set_limits                                             | set-limits-determined                             |
+--   |   sweep, append_gate                                     | sweep-determined, append-gate-determined          |
 --   |   report, store                                          | report-determined, store-determined               |
 --   | text put, put_labelled, put_numbered, put_numbers,       |                                                   |
 --   |   put_hex, put_unhex                                     | put-determined                                    |
@@ -66,7 +68,7 @@ use Rattle.targets.specs.Target.{Target}
 use Rattle.bench.specs.declared.Bench.{Bench}
 use Rattle.bench.specs.State.{Limits, Present}
 use Rattle.bench.specs.Held.{emptyBench, Stands}
-use Rattle.bench.specs.Calls.{View, OpenGiven, GateGiven, OutputGiven, EntryGiven, LimitsGiven, ReportGiven, StoreGiven}
+use Rattle.bench.specs.Calls.{View, OpenGiven, GateGiven, OutputGiven, EntryGiven, LimitsGiven, SweepGiven, AppendGiven, ReportGiven, StoreGiven}
 use Rattle.bench.specs.Run.{Call, presentAfter, Runs}
 use Rattle.bench.proofs.RunLaws.{after-calls}
 use Rattle.bench.proofs.Unique as benches
@@ -177,6 +179,12 @@ module _ (v : View) where
 
     pub set-limits-determined : (l : Limits) (r s : v .Edits) (c d : Bench) → LimitsGiven v b l r c → LimitsGiven v b l s d → (r ≡ s) × (c ≡ d)
     set-limits-determined = benches.set-limits-unique v b now stands
+
+    pub sweep-determined : (r s : v .Edits) (c d : Bench) → SweepGiven v b r c → SweepGiven v b s d → (r ≡ s) × (c ≡ d)
+    sweep-determined = benches.sweep-unique v b now stands
+
+    pub append-gate-determined : (kind x y : ℕ) (r s : v .Edits) (c d : Bench) → AppendGiven v b kind x y r c → AppendGiven v b kind x y s d → (r ≡ s) × (c ≡ d)
+    append-gate-determined = benches.append-gate-unique v b now stands
 
     pub report-determined : (r s : v .Reports) → ReportGiven v b r → ReportGiven v b s → r ≡ s
     report-determined = benches.report-unique v b now stands

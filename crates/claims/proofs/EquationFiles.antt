@@ -36,7 +36,7 @@ use Rattle.claims.proofs.Causes.{GivenExactly, Some}
 use Rattle.claims.proofs.Tables.{BrokenTarget, OtherThanXor, openedTable, BadTextAt, equationsTable}
 use Rattle.claims.proofs.Following.{opened-law}
 use Rattle.claims.proofs.FilesFollow.{equations-law, text-law, name-law, enough-law}
-use Rattle.claims.proofs.FirstDemand.{refusals, numbered, not-zero, thirteen-most, stored-length}
+use Rattle.claims.proofs.FirstDemand.{refusalOf, numbered, not-zero, not-of-files, stored-length}
 
 done-zero : (a : Answer) → answerNo a ≡ 0 → a ≡ Done
 done-zero Done e = refl
@@ -103,7 +103,7 @@ drawnOf number count place =
     cond (eqb number 0) (Stored count)
     (cond (eqb number 15) (BadText place)
     (cond (eqb number 16) (BadName place)
-    (cond (eqb number 17) NoOutputs (NotStored (getD refusals (number - 1) Shape)))))
+    (cond (eqb number 17) NoOutputs (NotStored (refusalOf number)))))
 
 abbrev drawnFor : ReadingNumbers → Drawn
 drawnFor r = drawnOf (r .refusal) (r .count) (r .place)
@@ -114,8 +114,8 @@ drawn-for (BadText place) = refl
 drawn-for (BadName place) = refl
 drawn-for NoOutputs = refl
 drawn-for (NotStored w) =
-    let h = thirteen-most w in
-    rw (ne-eqb (refusalNo w) 0 (not-zero w), ne-eqb (refusalNo w) 15 (λ e. omega arith), ne-eqb (refusalNo w) 16 (λ e. omega arith), ne-eqb (refusalNo w) 17 (λ e. omega arith))
+    let apart : (n : ℕ) → 13 < n → n < 18 → eqb (refusalNo w) n ≡ false = λ n h l. ne-eqb (refusalNo w) n (not-of-files w n h l) in
+    rw (ne-eqb (refusalNo w) 0 (not-zero w), apart 15 (omega arith) (omega arith), apart 16 (omega arith) (omega arith), apart 17 (omega arith) (omega arith))
     (ap NotStored (numbered w))
 
 pub numbers-tell : (d e : Drawn) → drawnCode d ≡ drawnCode e → d ≡ e

@@ -3,17 +3,16 @@
 use mathlib.Core.Path.{_≡_, refl, sym, ap, _∙_, subst}
 use mathlib.Core.Bool.{Bool, true, false, cond}
 use mathlib.Core.List.{List, [], _∷_, map}
-use Prim.Native.Nat.{ℕ, zero, suc, _+_, _*_, _^_, _≤_, _<_, _-_, _/_}
+use Prim.Native.Nat.{ℕ, zero, suc, _+_, _*_, _^_, _≤_, _<_, _-_, _/_, min}
 use native.Mathlib.Omega.{arith}
-use native.Mathlib.Decide.{decLt}
 use lib.Dec.{leb}
-use lib.ListN.{length, getD, length-append, List·getD-eq-default}
+use lib.ListN.{length, getD, length-append}
 use Rattle.circuit.specs.declared.Refusal.{Refusal}
-use Rattle.circuit.specs.declared.Refusal.the-variants.{Target as BadTarget, NoRoom, NotThere, Shape, Length, Mark, UnknownKind, Operand, NoLine, NotXor, TooDeep, TooShallow, NothingOpen}
+use Rattle.circuit.specs.declared.Refusal.the-variants.{Target as BadTarget, NoRoom, NotThere, Shape, Length, Mark, UnknownKind, Operand, NoLine, NotXor, TooDeep, TooShallow, NothingOpen, Full}
 use Rattle.circuit.specs.declared.Answer.{Answer}
 use Rattle.circuit.specs.declared.Answer.the-variants.{Done, Refused}
 use Rattle.circuit.specs.declared.Circuit.{Circuit}
-use Rattle.circuit.specs.Lines.{Listing}
+use Rattle.circuit.specs.Lines.{Listing, gate, withMore}
 use Rattle.circuit.specs.Structs.{listed}
 use Rattle.circuit.specs.Rules.{refusalNo, answerNo, unless, listingAnswer}
 use Rattle.circuit.proofs.RuleLaws.{circuit-fits}
@@ -46,30 +45,33 @@ use Rattle.bench.specs.declared.Bench.{Bench}
 use Rattle.bench.specs.declared.Edit.{Edit}
 use Rattle.bench.specs.declared.Reported.{Reported}
 use Rattle.bench.specs.State.{State, Present, nothing, present, Limits, SoundPresent}
-use Rattle.bench.specs.Calls.{after, openAnswer, openState, gateEditAnswer, gateEdited, outputEditAnswer, outputEdited, entryEditAnswer, entryEdited, limitsAnswer, storeAnswer, gateEdit, editBy, readersOf, noRework, storedOf, View, benchAfterOpen, OpenPromise, GatePromise, OutputPromise, EntryPromise, LimitsPromise, ReportPromise, StorePromise}
+use Rattle.bench.specs.Calls.{after, openAnswer, openState, gateEditAnswer, gateEdited, outputEditAnswer, outputEdited, entryEditAnswer, entryEdited, limitsAnswer, storeAnswer, gateEdit, editBy, readersOf, noRework, sweepEdit, appendAnswer, appended, appendEdit, storedOf, View, benchAfterOpen, OpenPromise, GatePromise, OutputPromise, EntryPromise, LimitsPromise, SweepPromise, AppendPromise, ReportPromise, StorePromise}
 use Rattle.bench.specs.Run.{Call, afterCall, presentAfter, StepGiven, Runs}
-use Rattle.bench.specs.Run.Call.{opening, replacing, pointing, changing, limiting, reporting, storing}
+use Rattle.bench.specs.Run.Call.{opening, replacing, pointing, changing, limiting, sweeping, appending, reporting, storing}
 use Rattle.bench.specs.Held.{emptyBench, benchOf, Stands}
 use Rattle.bench.proofs.SoundLaws.{Callable}
 use Rattle.bench.proofs.RunLaws.{after-calls, step-exists}
 use Rattle.coded.specs.declared.EditNumbers.{EditNumbers}
 use Rattle.coded.specs.declared.ReportNumbers.{ReportNumbers}
-use Rattle.coded.specs.Coded.{reportedCode, OpenCode, GateCode, OutputCode, EntryCode, LimitsCode, ReportCodePromise, StoreCode}
+use Rattle.coded.specs.Coded.{reportedCode, OpenCode, GateCode, OutputCode, EntryCode, LimitsCode, SweepCode, AppendCode, ReportCodePromise, StoreCode}
 use Rattle.claims.proofs.Causes.{first, accepted, GivenExactly, none-left}
-use Rattle.claims.proofs.Tables.{OutOfRange, readTable, openTable, replaceTable, pointTable, changeTable, openOnly, storeTable, buildTable, distanceTable, callNo, callTable}
-use Rattle.claims.proofs.Following.{range-law, done-last, read-law, open-law, replace-law, point-law, change-law, limits-law, report-law, write-law, store-law, room-then, room-last, build-law, distance-law}
+use Rattle.claims.proofs.Tables.{OutOfRange, readTable, openTable, replaceTable, appendTable, pointTable, changeTable, openOnly, storeTable, buildTable, distanceTable, callNo, callTable}
+use Rattle.claims.proofs.Following.{range-law, done-last, read-law, open-law, replace-law, append-law, sweep-law, point-law, change-law, limits-law, report-law, write-law, store-law, room-then, room-last, build-law, distance-law}
 
--- ---- The numbers given back: 1 to 13, one for each refusal.
+-- ---- The numbers given back: 1 to 13 and 18, one for each refusal.
 
 abbrev pub refusals : List Refusal
 refusals =
-    Shape ∷ Length ∷ Mark ∷ UnknownKind ∷ Operand ∷ NoLine ∷ NotXor ∷ BadTarget ∷ TooDeep ∷ TooShallow ∷ NoRoom ∷ NotThere ∷ NothingOpen ∷ []
+    Shape ∷ Length ∷ Mark ∷ UnknownKind ∷ Operand ∷ NoLine ∷ NotXor ∷ BadTarget ∷ TooDeep ∷ TooShallow ∷ NoRoom ∷ NotThere ∷ NothingOpen ∷ Full ∷ []
 
-pub numbers : map refusalNo refusals ≡ 1 ∷ 2 ∷ 3 ∷ 4 ∷ 5 ∷ 6 ∷ 7 ∷ 8 ∷ 9 ∷ 10 ∷ 11 ∷ 12 ∷ 13 ∷ []
+pub numbers : map refusalNo refusals ≡ 1 ∷ 2 ∷ 3 ∷ 4 ∷ 5 ∷ 6 ∷ 7 ∷ 8 ∷ 9 ∷ 10 ∷ 11 ∷ 12 ∷ 13 ∷ 18 ∷ []
 numbers = refl
 
--- each refusal stands in the list at its number,
-pub numbered : (w : Refusal) → getD refusals (refusalNo w - 1) Shape ≡ w
+-- each refusal stands in the list at its number, 18 last,
+abbrev pub refusalOf : ℕ → Refusal
+refusalOf n = getD refusals (min (n - 1) 13) Shape
+
+pub numbered : (w : Refusal) → refusalOf (refusalNo w) ≡ w
 numbered Shape = refl
 numbered Length = refl
 numbered Mark = refl
@@ -83,13 +85,14 @@ numbered TooShallow = refl
 numbered NoRoom = refl
 numbered NotThere = refl
 numbered NothingOpen = refl
+numbered Full = refl
 
 -- so that two with the same number are the same,
 pub one-each : (v w : Refusal) → refusalNo v ≡ refusalNo w → v ≡ w
-one-each v w e = sym (numbered v) ∙ ap (λ (k : ℕ). getD refusals (k - 1) Shape) e ∙ numbered w
+one-each v w e = sym (numbered v) ∙ ap refusalOf e ∙ numbered w
 
 pub not-zero : (w : Refusal) → refusalNo w ≡ 0 → ⊥
-not-zero w z = let e : w ≡ Shape = sym (numbered w) ∙ ap (λ (k : ℕ). getD refusals (k - 1) Shape) z in omega (arith, z, ap refusalNo e)
+not-zero w z = let e : w ≡ Shape = sym (numbered w) ∙ ap refusalOf z in omega (arith, z, ap refusalNo e)
 
 -- and those of a distance query are numbers of this table: 1, 2, 8 and 9.
 pub query-numbers : (queryRefusalNo Inputs ≡ refusalNo Shape) × (queryRefusalNo Lists ≡ refusalNo Length) × (queryRefusalNo Mask ≡ refusalNo BadTarget) × (queryRefusalNo Depth ≡ refusalNo TooDeep)
@@ -100,11 +103,11 @@ pub file-numbers : (place : ℕ) → (drawnNo (BadText place) ≡ 15) × ((drawn
 file-numbers place = (refl, (refl, refl))
 
 -- No other refusal has their numbers.
-pub thirteen-most : (w : Refusal) → refusalNo w ≤ 13
-thirteen-most w = by (decLt 13 (refusalNo w)) where
-  by : Dec (13 < refusalNo w) → refusalNo w ≤ 13
-  by (yes h) = let e : w ≡ Shape = sym (numbered w) ∙ List·getD-eq-default refusals Shape {n = refusalNo w - 1} (omega arith) in omega (arith, ap refusalNo e)
-  by (no h) = omega (arith, h)
+pub not-of-files : (w : Refusal) (n : ℕ) → 13 < n → n < 18 → refusalNo w ≡ n → ⊥
+not-of-files w n h l e =
+    let last : min (n - 1) 13 ≡ 13 = omega arith in
+    let full : w ≡ Full = sym (numbered w) ∙ ap refusalOf e ∙ ap (λ (k : ℕ). getD refusals k Shape) last in
+    omega (arith, ap refusalNo full)
 
 -- ---- All calls on a bench
 
@@ -119,6 +122,8 @@ call-numbers p (replacing k kind a b) = replace-law p k kind a b
 call-numbers p (pointing j line) = point-law p j line
 call-numbers p (changing i value) = change-law p i value
 call-numbers p (limiting l) = limits-law p
+call-numbers p sweeping = sweep-law p
+call-numbers p (appending kind a b) = append-law p kind a b
 call-numbers p reporting = report-law p
 call-numbers p (storing room) = store-law p (length room)
 
@@ -133,6 +138,10 @@ refused-changes-nothing nothing (changing i value) h = refl
 refused-changes-nothing (present s) (changing i value) h = unless-done (entryEditAnswer (present s) i value) (entryEdited s i value) (present s) h
 refused-changes-nothing nothing (limiting l) h = refl
 refused-changes-nothing (present s) (limiting l) h = absurd (h refl)
+refused-changes-nothing nothing sweeping h = refl
+refused-changes-nothing (present s) sweeping h = absurd (h refl)
+refused-changes-nothing nothing (appending kind a b) h = refl
+refused-changes-nothing (present s) (appending kind a b) h = unless-done (appendAnswer (present s) kind a b) (appended s kind a b) (present s) h
 refused-changes-nothing p reporting h = refl
 refused-changes-nothing p (storing room) h = refl
 
@@ -276,19 +285,36 @@ module _ (b : Bench) (bytes : List ℕ) (t : Target) (l : Limits) (next : Bench)
 
 -- ==== The other calls, on a bench that calls yield, from one with nothing open. `now` is what is present.
 
+-- the answer beside a set of lines
+as-answered : (x : Answer) (marks : List Bool) → editBy x marks .answer ≡ x
+as-answered Done marks = refl
+as-answered (Refused w) marks = refl
+
 pub gate-answer : (p : Present) (k kind a b : ℕ) → gateEdit p k kind a b .answer ≡ gateEditAnswer p k kind a b
 unfolding gateEditAnswer
 gate-answer nothing k kind a b = refl
-gate-answer (present s) k kind a b = by (gateEditAnswer (present s) k kind a b)
-  where
-    by : (x : Answer) → editBy x (readersOf (s .circuit) k) .answer ≡ x
-    by Done = refl
-    by (Refused w) = refl
+gate-answer (present s) k kind a b = as-answered (gateEditAnswer (present s) k kind a b) (readersOf (s .circuit) k)
+
+pub append-answer : (p : Present) (kind a b : ℕ) → appendEdit p kind a b .answer ≡ appendAnswer p kind a b
+unfolding appendAnswer
+append-answer nothing kind a b = refl
+append-answer (present s) kind a b =
+    as-answered (appendAnswer (present s) kind a b) (readersOf (withMore (s .circuit) (gate kind a b)) (length (s .circuit .gates)))
 
 gate-refused : (p : Present) (k kind a b : ℕ) (w : Refusal) → gateEditAnswer p k kind a b ≡ Refused w → gateEdit p k kind a b ≡ noRework (Refused w)
 unfolding gateEditAnswer
 gate-refused nothing k kind a b w e = ap noRework e
 gate-refused (present s) k kind a b w e = ap (λ (x : Answer). editBy x (readersOf (s .circuit) k)) e
+
+append-refused-edit : (p : Present) (kind a b : ℕ) (w : Refusal) → appendAnswer p kind a b ≡ Refused w → appendEdit p kind a b ≡ noRework (Refused w)
+unfolding appendAnswer
+append-refused-edit nothing kind a b w e = ap noRework e
+append-refused-edit (present s) kind a b w e =
+    ap (λ (x : Answer). editBy x (readersOf (withMore (s .circuit) (gate kind a b)) (length (s .circuit .gates)))) e
+
+sweep-refused-edit : (p : Present) (w : Refusal) → sweepEdit p .answer ≡ Refused w → sweepEdit p ≡ noRework (Refused w)
+sweep-refused-edit nothing w e = ap noRework e
+sweep-refused-edit (present s) w e = let z : _≡_ {A = ℕ} 0 1 = cc in absurd (omega arith)
 
 module _ {b : Bench} {calls : List Call} (run : Runs emptyBench calls b) where
   abbrev now : Present
@@ -308,24 +334,53 @@ module _ {b : Bench} {calls : List Call} (run : Runs emptyBench calls b) where
   pub every-call-answers : (v : View) (call : Call) → Callable call → StepGiven v b call (benchOf (afterCall now call))
   every-call-answers v = step-exists v b now stands
 
-  -- Edits: 13, 12, then 4, 5, 7 for a gate, 6 for an output, 8 for an entry; limits 13. A refused one leaves the bench, and gives its number only: no line is listed.
+  -- Edits: 13, 12, then 4, 5, 7 for a gate, 6 for an output, 8 for an entry; append 13, 18, then 4, 5, 7; limits and sweep 13. A refused one leaves
+  -- the bench, and gives its number only: no line is listed.
+  abbrev EditNumbered : Call → Edit → Bench → Type 0
+  EditNumbered call edit next =
+      GivenExactly (answerNo (edit .answer)) (callTable now call) × ((w : Refusal) → edit .answer ≡ Refused w → (next ≡ b) × (edit ≡ noRework (Refused w)))
+
+  -- an edit that gives x, whose answer is a, and lists no line where it is refused
+  edit-numbered : (call : Call) (x edit : Edit) (a : Answer) (next : Bench) → callNo now call ≡ answerNo a → x .answer ≡ a
+      → ((w : Refusal) → a ≡ Refused w → x ≡ noRework (Refused w)) → (edit ≡ x) × (next ≡ benchOf (afterCall now call)) → EditNumbered call edit next
+  edit-numbered call x edit a next e is none h =
+      let q = ap (λ (z : Edit). z .answer) (h .0) ∙ is in
+      (given call (ap answerNo q ∙ sym e), λ w r. (kept call (not-zero w) (ap answerNo (sym r ∙ q) ∙ sym e) (h .1), h .0 ∙ none w (sym q ∙ r)))
+
   module _ (k kind x y : ℕ) (edit : Edit) (next : Bench) (h : GatePromise b k kind x y edit next) where
-    answer-is : edit .answer ≡ gateEditAnswer now k kind x y
-    answer-is = ap (λ (e : Edit). e .answer) (h now stands .0) ∙ gate-answer now k kind x y
+    replacement : EditNumbered (replacing k kind x y) edit next
+    replacement =
+        edit-numbered (replacing k kind x y) (gateEdit now k kind x y) edit (gateEditAnswer now k kind x y) next refl (gate-answer now k kind x y) (gate-refused now k kind x y) (h now stands)
 
     pub replace-numbers : GivenExactly (answerNo (edit .answer)) (replaceTable now k kind x y)
-    replace-numbers = given (replacing k kind x y) (ap answerNo answer-is)
+    replace-numbers = replacement .0
 
     pub replace-refused : (w : Refusal) → edit .answer ≡ Refused w → (next ≡ b) × (edit ≡ noRework (Refused w))
-    replace-refused w e =
-        (kept (replacing k kind x y) (not-zero w) (ap answerNo (sym e ∙ answer-is)) (h now stands .1), h now stands .0 ∙ gate-refused now k kind x y w (sym answer-is ∙ e))
+    replace-refused = replacement .1
+
+  module _ (kind x y : ℕ) (edit : Edit) (next : Bench) (h : AppendPromise b kind x y edit next) where
+    addition : EditNumbered (appending kind x y) edit next
+    addition = edit-numbered (appending kind x y) (appendEdit now kind x y) edit (appendAnswer now kind x y) next refl (append-answer now kind x y) (append-refused-edit now kind x y) (h now stands)
+
+    pub append-numbers : GivenExactly (answerNo (edit .answer)) (appendTable now kind x y)
+    append-numbers = addition .0
+
+    pub append-refused : (w : Refusal) → edit .answer ≡ Refused w → (next ≡ b) × (edit ≡ noRework (Refused w))
+    append-refused = addition .1
+
+  module _ (edit : Edit) (next : Bench) (h : SweepPromise b edit next) where
+    sweeping-up : EditNumbered sweeping edit next
+    sweeping-up = edit-numbered sweeping (sweepEdit now) edit (sweepEdit now .answer) next refl refl (sweep-refused-edit now) (h now stands)
+
+    pub sweep-numbers : GivenExactly (answerNo (edit .answer)) (openOnly now)
+    sweep-numbers = sweeping-up .0
+
+    pub sweep-refused : (w : Refusal) → edit .answer ≡ Refused w → (next ≡ b) × (edit ≡ noRework (Refused w))
+    sweep-refused = sweeping-up .1
 
   -- an edit that reworks no line
-  reworkless : (call : Call) (edit : Edit) (a : Answer) (next : Bench) → callNo now call ≡ answerNo a → (edit ≡ noRework a) × (next ≡ benchOf (afterCall now call))
-      → GivenExactly (answerNo (edit .answer)) (callTable now call) × ((w : Refusal) → edit .answer ≡ Refused w → (next ≡ b) × (edit ≡ noRework (Refused w)))
-  reworkless call edit a next e h =
-      let q = ap (λ (z : Edit). z .answer) (h .0) in
-      (given call (ap answerNo q ∙ sym e), λ w r. (kept call (not-zero w) (ap answerNo (sym r ∙ q) ∙ sym e) (h .1), h .0 ∙ ap noRework (sym q ∙ r)))
+  reworkless : (call : Call) (edit : Edit) (a : Answer) (next : Bench) → callNo now call ≡ answerNo a → (edit ≡ noRework a) × (next ≡ benchOf (afterCall now call)) → EditNumbered call edit next
+  reworkless call edit a next e = edit-numbered call (noRework a) edit a next e refl (λ w z. ap noRework z)
 
   module _ (j line : ℕ) (edit : Edit) (next : Bench) (h : OutputPromise b j line edit next) where
     pub point-numbers : GivenExactly (answerNo (edit .answer)) (pointTable now j line)
@@ -378,6 +433,13 @@ module _ {b : Bench} {calls : List Call} (run : Runs emptyBench calls b) where
 
   pub limits-numbered : (l : Limits) (edit : EditNumbers) (next : Bench) → LimitsCode b l edit next → Numbered (limiting l) (edit .refusal) next
   limits-numbered l edit next h = coded (limiting l) (edit .refusal) next (ap (λ (e : EditNumbers). e .refusal) (h now stands .0)) (h now stands .1)
+
+  pub sweep-numbered : (edit : EditNumbers) (next : Bench) → SweepCode b edit next → Numbered sweeping (edit .refusal) next
+  sweep-numbered edit next h = coded sweeping (edit .refusal) next (ap (λ (e : EditNumbers). e .refusal) (h now stands .0)) (h now stands .1)
+
+  pub append-numbered : (kind x y : ℕ) (edit : EditNumbers) (next : Bench) → AppendCode b kind x y edit next → Numbered (appending kind x y) (edit .refusal) next
+  append-numbered kind x y edit next h =
+      coded (appending kind x y) (edit .refusal) next (ap (λ (e : EditNumbers). e .refusal) (h now stands .0) ∙ ap answerNo (append-answer now kind x y)) (h now stands .1)
 
   pub report-numbered : (r : ReportNumbers) → ReportCodePromise b r → GivenExactly (r .refusal) (openOnly now)
   report-numbered r h = given reporting (ap (λ (e : ReportNumbers). e .refusal) (h now stands))

@@ -12,7 +12,7 @@ use lib.ListN.{length, getD, drop}
 use lib.Seq.{getD-drop, drop-drop}
 use Rattle.circuit.specs.declared.Refusal.{Refusal}
 use Rattle.circuit.specs.declared.Circuit.{Circuit}
-use Rattle.circuit.specs.declared.Refusal.the-variants.{Shape, Length, Mark, UnknownKind, Operand, NotXor, Target as BadTarget, NoRoom, NotThere}
+use Rattle.circuit.specs.declared.Refusal.the-variants.{Shape, Length, Mark, UnknownKind, Operand, NotXor, Target as BadTarget, NoRoom, NotThere, Full}
 use Rattle.circuit.specs.declared.Answer.{Answer}
 use Rattle.circuit.specs.declared.Answer.the-variants.{Done, Refused}
 use Rattle.circuit.specs.Gate.{kindOf, allowed}
@@ -39,10 +39,10 @@ use Rattle.distance.specs.Query.{anyFrom, badLists, badMask, badDepth, refuse, 
 use Rattle.builder.specs.Call.{built, badRow, tooHeavy, refusal, buildAnswer}
 use Rattle.targets.specs.Target.{Target, matrix, table, isMatrix, rowFits, entryFits, targetFits}
 use Rattle.bench.specs.State.{Present, nothing, present}
-use Rattle.bench.specs.Calls.{openAnswer, gateEditAnswer, outputEditAnswer, entryAnswer, entryEditAnswer, limitsAnswer, reported, storeAnswer}
+use Rattle.bench.specs.Calls.{openAnswer, gateEditAnswer, outputEditAnswer, entryAnswer, entryEditAnswer, limitsAnswer, sweepEdit, appendAnswer, reported, storeAnswer}
 use Rattle.coded.specs.Coded.{reportedCode}
 use Rattle.claims.proofs.Causes.{first, accepted, GivenExactly, Some, none-left, Tells, Fails, tells-as, fails-as, fails-where-not, not-fails, not-tells, tells-or, tells-lt, tells-le, tells-eq, fails-and, fails-lt, fails-le, tells-some, chain-under, chain, chain-on}
-use Rattle.claims.proofs.Tables.{OutOfRange, BadOperand, gateTable, BadRow, BrokenTarget, recordsTable, gateRecordTable, outRecordTable, bodyTable, readTable, openTable, openedTable, replaceTable, pointTable, entryCauses, changeTable, openOnly, storeTable, buildTable, distanceTable}
+use Rattle.claims.proofs.Tables.{OutOfRange, BadOperand, gateTable, BadRow, BrokenTarget, recordsTable, gateRecordTable, outRecordTable, bodyTable, readTable, openTable, openedTable, replaceTable, appendTable, pointTable, entryCauses, changeTable, openOnly, storeTable, buildTable, distanceTable}
 
 pub range-law : (n m g : ℕ) → Fails (shaped n m g) (OutOfRange n m g)
 unfolding shaped
@@ -277,6 +277,21 @@ replace-law (present s) k kind a b =
     chain (λ t. answerNo (unless t NotThere (gateAnswer only line (gate kind a b)))) (fails-lt k (length (s .circuit .gates)))
     (subst (λ (x : Answer). GivenExactly (answerNo x) (gateTable only line kind a b accepted)) (done-last (gateAnswer only line (gate kind a b)))
     (gate-law Done none-left only line kind a b))
+
+pub append-law : (p : Present) (kind a b : ℕ) → GivenExactly (answerNo (appendAnswer p kind a b)) (appendTable p kind a b)
+unfolding appendAnswer
+append-law nothing kind a b = λ n. (sym, sym)
+append-law (present s) kind a b =
+    let only = isMatrix (s .target) in
+    let g = length (s .circuit .gates) in
+    let line = s .circuit .inputs + g in
+    chain (λ t. answerNo (unless t Full (gateAnswer only line (gate kind a b)))) (fails-lt g mostGates)
+    (subst (λ (x : Answer). GivenExactly (answerNo x) (gateTable only line kind a b accepted)) (done-last (gateAnswer only line (gate kind a b)))
+    (gate-law Done none-left only line kind a b))
+
+pub sweep-law : (p : Present) → GivenExactly (answerNo (sweepEdit p .answer)) (openOnly p)
+sweep-law nothing = λ n. (sym, sym)
+sweep-law (present s) = none-left
 
 pub point-law : (p : Present) (j line : ℕ) → GivenExactly (answerNo (outputEditAnswer p j line)) (pointTable p j line)
 unfolding outputEditAnswer

@@ -8,6 +8,7 @@ pub mod AtDesk
 pub mod Examples
 pub mod Determined
 pub mod ToOutputs
+pub mod Sweeping
 pub mod Tables
 pub mod Causes
 pub mod Following

@@ -18,9 +18,9 @@ use Rattle.meaning.specs.Meaning.{operatorsIn, inputsIn, setsOutput}
 use Rattle.drawing.specs.Drawing.{drawnBytes}
 use Rattle.targets.specs.Target.{Target, matrix, table, isMatrix}
 use Rattle.bench.specs.State.{State, Present, nothing, present}
-use Rattle.bench.specs.Calls.{openAnswer, gateEditAnswer, outputEditAnswer, entryEditAnswer, limitsAnswer, reported, storeAnswer}
+use Rattle.bench.specs.Calls.{openAnswer, gateEditAnswer, outputEditAnswer, entryEditAnswer, limitsAnswer, sweepEdit, appendAnswer, reported, storeAnswer}
 use Rattle.bench.specs.Run.{Call}
-use Rattle.bench.specs.Run.Call.{opening, replacing, pointing, changing, limiting, reporting, storing}
+use Rattle.bench.specs.Run.Call.{opening, replacing, pointing, changing, limiting, sweeping, appending, reporting, storing}
 use Rattle.coded.specs.Coded.{reportedCode}
 use Rattle.claims.proofs.Causes.{first, accepted, Some}
 
@@ -108,7 +108,12 @@ entryCauses c (table entries) i value = first 12 (2 ^ c .inputs ≤ i) (first 8 
 abbrev pub changeTable : Present → ℕ → ℕ → ℕ → Type 0
 changeTable p i value = whenOpen p (λ s. entryCauses (s .circuit) (s .target) i value)
 
--- report and limits: 13 alone
+-- append a gate: 18 where 248 are there, then 4, 5, 7
+abbrev pub appendTable : Present → ℕ → ℕ → ℕ → ℕ → Type 0
+appendTable p kind a b =
+    whenOpen p (λ s. let g = length (s .circuit .gates) in first 18 (248 ≤ g) (gateTable (isMatrix (s .target)) (s .circuit .inputs + g) kind a b accepted))
+
+-- report, limits and sweep: 13 alone
 abbrev pub openOnly : Present → ℕ → Type 0
 openOnly p = whenOpen p (λ s. accepted)
 
@@ -168,6 +173,8 @@ callNo p (replacing k kind a b) = answerNo (gateEditAnswer p k kind a b)
 callNo p (pointing j line) = answerNo (outputEditAnswer p j line)
 callNo p (changing i value) = answerNo (entryEditAnswer p i value)
 callNo p (limiting l) = answerNo (limitsAnswer p)
+callNo p sweeping = answerNo (sweepEdit p .answer)
+callNo p (appending kind a b) = answerNo (appendAnswer p kind a b)
 callNo p reporting = reportedCode (reported p) .refusal
 callNo p (storing room) = writingNo (storeAnswer p (length room))
 
@@ -177,5 +184,7 @@ callTable p (replacing k kind a b) = replaceTable p k kind a b
 callTable p (pointing j line) = pointTable p j line
 callTable p (changing i value) = changeTable p i value
 callTable p (limiting l) = openOnly p
+callTable p sweeping = openOnly p
+callTable p (appending kind a b) = appendTable p kind a b
 callTable p reporting = openOnly p
 callTable p (storing room) = storeTable p (length room)

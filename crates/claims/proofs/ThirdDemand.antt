@@ -18,15 +18,16 @@ use Rattle.circuit.proofs.WordLaws.{words-values}
 use Rattle.circuit.proofs.Padding.{pad-read}
 use Rattle.circuit.proofs.RuleLaws.{circuit-fits}
 use Rattle.stored.specs.Stored.{stored}
+use Rattle.sweep.specs.Sweep.{swept}
 use Rattle.targets.specs.Target.{Target, isMatrix}
 use Rattle.bench.specs.declared.Bench.{Bench}
 use Rattle.bench.specs.declared.Edit.{Edit}
 use Rattle.bench.specs.declared.Reported.{Reported}
-use Rattle.bench.specs.State.{Limits, State, withLimits, Present, nothing, present}
+use Rattle.bench.specs.State.{Limits, State, withCircuit, withLimits, Present, nothing, present}
 use Rattle.bench.specs.Held.{emptyBench, fullBench, benchOf, Stands}
-use Rattle.bench.specs.Calls.{after, openAnswer, openState, gateEditAnswer, gateEdited, afterGate, gateEdit, editBy, readersOf, sizeOf, outputEditAnswer, outputEdited, entryEditAnswer, entryEdited, noRework, reported, asTheyAre, GatePromise, OutputPromise, EntryPromise, LimitsPromise, ReportPromise}
+use Rattle.bench.specs.Calls.{after, openAnswer, openState, gateEditAnswer, gateEdited, afterGate, gateEdit, editBy, readersOf, sizeOf, outputEditAnswer, outputEdited, entryEditAnswer, entryEdited, noRework, appendAnswer, appended, reported, asTheyAre, GatePromise, OutputPromise, EntryPromise, LimitsPromise, ReportPromise}
 use Rattle.bench.specs.Run.{Call, afterCall, presentFrom, presentAfter, RunsBy, Runs}
-use Rattle.bench.specs.Run.Call.{opening, replacing, pointing, changing, limiting, reporting, storing}
+use Rattle.bench.specs.Run.Call.{opening, replacing, pointing, changing, limiting, sweeping, appending, reporting, storing}
 use Rattle.bench.proofs.Readers.{Affected, Lists, gate-edit-lists, marked-affected}
 use Rattle.bench.proofs.RunLaws as laws
 use Rattle.bench.proofs.RunLaws.{SameLine, after-calls, AllCallable}
@@ -45,6 +46,8 @@ Opens (replacing k kind a b) = ⊥
 Opens (pointing j line) = ⊥
 Opens (changing i value) = ⊥
 Opens (limiting l) = ⊥
+Opens sweeping = ⊥
+Opens (appending kind a b) = ⊥
 Opens reporting = ⊥
 Opens (storing room) = ⊥
 
@@ -74,6 +77,8 @@ last-opening (call ∷ calls) = by (last-opening calls)
     here (pointing j line) n = LastOpening.never (λ h. h, n)
     here (changing i value) n = LastOpening.never (λ h. h, n)
     here (limiting l) n = LastOpening.never (λ h. h, n)
+    here sweeping n = LastOpening.never (λ h. h, n)
+    here (appending kind a b) n = LastOpening.never (λ h. h, n)
     here reporting n = LastOpening.never (λ h. h, n)
     here (storing room) n = LastOpening.never (λ h. h, n)
 
@@ -96,6 +101,8 @@ none-present (call ∷ calls) n = ap (λ (p : Present). presentFrom p calls) (st
     stays (pointing j line) h = refl
     stays (changing i value) h = refl
     stays (limiting l) h = refl
+    stays sweeping h = refl
+    stays (appending kind a b) h = refl
     stays reporting h = refl
     stays (storing room) h = refl
 
@@ -121,6 +128,13 @@ module _ (s : State) where
 
   pub limits-set : (l : Limits) → afterCall (present s) (limiting l) ≡ present (withLimits s l)
   limits-set l = refl
+
+  -- as are a sweep,
+  pub all-swept : afterCall (present s) sweeping ≡ present (withCircuit s (swept (s .circuit)))
+  all-swept = refl
+
+  pub gate-appended : (kind a b : ℕ) → appendAnswer (present s) kind a b ≡ Done → afterCall (present s) (appending kind a b) ≡ present (appended s kind a b)
+  gate-appended kind a b e = ap (λ (x : Answer). after x (appended s kind a b) (present s)) e
 
 -- and a refused call, whatever was called, changes nothing (`refused-changes-nothing` in FirstDemand).
 pub refused-nothing : (p : Present) (call : Call) → (callNo p call ≡ 0 → ⊥) → afterCall p call ≡ p
