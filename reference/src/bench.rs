@@ -1,8 +1,9 @@
 //! The bench: one circuit, one target and three limits, with the calls that open, examine, edit
 //! and store. Every report is examined afresh; a refused call changes nothing.
 
-use crate::circuit::{self, Circuit, Gate};
+use crate::circuit::{self, Circuit, Gate, MAX_GATES};
 use crate::examine::{self, Limits, Lines, Report, Target};
+use crate::sweep;
 
 type Open = (Circuit, Target, Limits);
 
@@ -49,6 +50,25 @@ impl Bench {
         circuit::check_gate(target.xor_only(), line, kind, a, b)?;
         circuit.gates[k as usize] = Gate { kind: kind as u8, a: a as u8, b: b as u8 };
         Ok(examine::readers(circuit, k as usize))
+    }
+
+    /// Adds a gate at the end and answers its line.
+    pub fn append_gate(&mut self, kind: u64, a: u64, b: u64) -> Result<Vec<usize>, u8> {
+        let (circuit, target, _) = self.opened_mut()?;
+        if circuit.gates.len() >= MAX_GATES as usize {
+            return Err(18);
+        }
+        let line = circuit.lines();
+        circuit::check_gate(target.xor_only(), line as u64, kind, a, b)?;
+        circuit.gates.push(Gate { kind: kind as u8, a: a as u8, b: b as u8 });
+        Ok(vec![line])
+    }
+
+    /// Sweeps the circuit and answers the line of each gate that is kept, whether or not any was dropped.
+    pub fn sweep(&mut self) -> Result<Vec<usize>, u8> {
+        let (circuit, _, _) = self.opened_mut()?;
+        *circuit = sweep::sweep(circuit);
+        Ok((circuit.n as usize..circuit.lines()).collect())
     }
 
     /// Points output j at a line; no line is reworked.

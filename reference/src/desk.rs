@@ -108,6 +108,11 @@ fn call(bench: &mut Bench, word: &[u8], rest: &[&[u8]]) -> Result<String, Fault>
             let [k, kind, a, b] = numbers(rest)?;
             Ok(reworked(&bench.replace_gate(k, kind, a, b)?))
         }
+        (b"append", _) => {
+            let [kind, a, b] = numbers(rest)?;
+            Ok(reworked(&bench.append_gate(kind, a, b)?))
+        }
+        (b"sweep", []) => Ok(reworked(&bench.sweep()?)),
         (b"output", _) => {
             let [j, line] = numbers(rest)?;
             Ok(reworked(&bench.point_output(j, line)?))

@@ -176,7 +176,7 @@ fn nonlinear(gate: &Gate) -> bool {
 }
 
 /// The second line a gate reads; a NOT reads its first operand alone.
-fn second_read(gate: &Gate) -> usize {
+pub fn second_read(gate: &Gate) -> usize {
     if gate.kind == NOT {
         gate.a as usize
     } else {

@@ -12,3 +12,4 @@ pub mod listing;
 pub mod plain;
 pub mod program;
 pub mod rng;
+pub mod sweep;

@@ -113,6 +113,37 @@ fn reads_equations() {
     assert_eq!(answers(&long(32_761)), "unreadable\n");
 }
 
+/// The request's morning: a gate that feeds nothing, and copies of copies in either order.
+const MORNING: &str = "open 534802030847540000014754020001475400010047540202044754060400475406020047540005\
+                       0647540007054f50084f50094f5001 table 04040404 9 9 9\n";
+
+#[test]
+fn sweeps_and_appends() {
+    let after = "inputs 2 outputs 3 gates 4 depth 3 anddepth 1\nt0 = x0 ^ x1\nt1 = t0 & t0\nt2 = ~t0\n\
+                 t3 = t1 ^ t2\ny0 = t3\ny1 = t3\ny2 = x1\nwrong 0 0\n";
+    let stored = "stored 34 53480203044754000001475402020247540602004754000304\
+                  4f50054f50054f5001\n";
+    assert_eq!(
+        answers(&format!("{MORNING}sweep\nshow\nstore 34\nsweep\n")),
+        format!("opened\nreworked 4 2 3 4 5\n{after}{stored}reworked 4 2 3 4 5\n")
+    );
+    assert_eq!(
+        on_open("append 6 2 0\nappend 0 3 2\nheld\nsweep\noutput 0 1\nsweep\nshow"),
+        "reworked 1 3\nreworked 1 4\nheld 5 0:0:0:0a 1:0:0:0c 2:1:1:08 3:2:1:07 4:3:1:0f\nreworked 1 2\n\
+         reworked 0\nreworked 0\ninputs 2 outputs 1 gates 0 depth 0 anddepth 0\ny0 = x1\nwrong 2 0\n"
+    );
+}
+
+#[test]
+fn a_full_list_takes_no_more() {
+    let full = "append 0 0 1\n".repeat(247);
+    let added: String = (3..250).map(|line| format!("reworked 1 {line}\n")).collect();
+    assert_eq!(
+        on_open(&format!("{full}append 0 0 1\nappend 300 300 300\nsweep\nappend 300 0 0\nappend 0 2 2")),
+        format!("{added}refused 18\nrefused 18\nreworked 1 2\nrefused 4\nreworked 1 3\n")
+    );
+}
+
 #[test]
 fn large_numbers_are_refused_by_what_they_name() {
     for (line, number) in [
@@ -120,6 +151,14 @@ fn large_numbers_are_refused_by_what_they_name() {
         ("gate 0 300 0 0", 4),
         ("gate 0 0 300 0", 5),
         ("gate 0 0 0 300", 5),
+        ("append 300 0 0", 4),
+        ("append 7 300 300", 4),
+        ("append 0 300 0", 5),
+        ("append 0 0 300", 5),
+        ("append 0 3 0", 5),
+        ("append 6 0 1", 5),
+        ("append 18446744073709551615 0 0", 4),
+        ("append 0 0 18446744073709551615", 5),
         ("output 0 300", 6),
         ("output 300 0", 12),
         ("entry 999 0", 12),
@@ -133,11 +172,12 @@ fn large_numbers_are_refused_by_what_they_name() {
 
 #[test]
 fn with_nothing_open() {
-    let calls = "report\ngate 0 0 0 0\noutput 0 0\nentry 0 0\nlimits 0 0 0\nstore 0\nheld\nshow\n";
-    assert_eq!(answers(calls), "refused 13\n".repeat(8));
+    let calls = "report\ngate 0 0 0 0\noutput 0 0\nentry 0 0\nlimits 0 0 0\nstore 0\nheld\nshow\n\
+                 sweep\nappend 300 300 300\n";
+    assert_eq!(answers(calls), "refused 13\n".repeat(10));
     assert_eq!(
         answers(&format!("new\n{OPEN}new\n{calls}")),
-        format!("new\nopened\nnew\n{}", "refused 13\n".repeat(8))
+        format!("new\nopened\nnew\n{}", "refused 13\n".repeat(10))
     );
 }
 
@@ -151,6 +191,7 @@ fn all_unreadable(lines: &[&str]) {
 fn unknown_words_and_counts_are_no_call() {
     all_unreadable(&["Report", "report 1", "new x", "held 0", "show all", "-", "open", "store", "gate"]);
     all_unreadable(&["gate 0 3 0", "gate 0 3 0 1 1", "output 0", "output 0 0 0", "entry 0", "limits 1 1"]);
+    all_unreadable(&["sweep 0", "sweep all", "Sweep", "sweeps", "append", "append 0 0", "append 0 0 0 0"]);
     all_unreadable(&["build 3 03 2", "build 3 03 2 29 1", "distance 4 01 00 1", "distance 4 01 00 1 1 1"]);
     all_unreadable(&["equations", "equations -", "equations - 1 1", "equations 7 1", "equations 79 x"]);
     all_unreadable(&["open - matrix - 0 0", "open - Matrix - 0 0 0", "open 53 48 table - 0 0 0"]);
@@ -161,6 +202,7 @@ fn unknown_words_and_counts_are_no_call() {
 #[test]
 fn numbers_and_hex_that_are_none() {
     all_unreadable(&["gate -1 3 0 1", "gate +0 3 0 1", "gate 0x0 3 0 1", "gate 18446744073709551616 3 0 1"]);
+    all_unreadable(&["append x 0 0", "append 0 -1 0", "append 0 0 18446744073709551616", "append 0x0 0 0"]);
     all_unreadable(&["limits 256 0 0", "limits 0 256 0", "limits 0 0 256", "open - matrix - 0 0 256"]);
     all_unreadable(&[
         "store -",

@@ -1,6 +1,6 @@
-//! Values, depths, verdict and readers, worked input value by input value and gate by gate.
+//! Values, depths, verdict, readers and the sweep, worked input value by input value and gate by gate.
 
-use std::collections::BTreeSet;
+use std::collections::{BTreeMap, BTreeSet};
 
 use crate::circuit::{Circuit, Gate, NOT};
 use crate::examine::{Limits, Report, Target, Verdict};
@@ -128,4 +128,75 @@ pub fn readers(circuit: &Circuit, k: usize) -> Vec<usize> {
             return set.into_iter().collect();
         }
     }
+}
+
+/// The gate of a line, where the line is no input.
+fn gate_of(circuit: &Circuit, line: usize) -> Option<&Gate> {
+    circuit.gates.get(line.checked_sub(circuit.n as usize)?)
+}
+
+/// The lines that a line reads: none, one or two.
+fn reads(circuit: &Circuit, line: usize) -> Vec<usize> {
+    match gate_of(circuit, line) {
+        None => vec![],
+        Some(gate) if gate.kind == NOT => vec![gate.a as usize],
+        Some(gate) => vec![gate.a as usize, gate.b as usize],
+    }
+}
+
+/// The inputs and what an output reaches, by adding what one of them reads until nothing is added.
+fn reached(circuit: &Circuit) -> BTreeSet<usize> {
+    let mut set: BTreeSet<usize> = (0..circuit.n as usize).collect();
+    set.extend(circuit.outs.iter().map(|&line| line as usize));
+    loop {
+        let more: Vec<usize> = set.iter().flat_map(|&line| reads(circuit, line)).collect();
+        let before = set.len();
+        set.extend(more);
+        if set.len() == before {
+            return set;
+        }
+    }
+}
+
+/// What tells a line from another: its number for an input; for a gate its kind and, in no order, the classes
+/// of what it reads.
+fn sign(circuit: &Circuit, line: usize, first: &BTreeMap<usize, usize>) -> (Option<u8>, Vec<usize>) {
+    match gate_of(circuit, line) {
+        None => (None, vec![line]),
+        Some(gate) => {
+            let mut classes: Vec<usize> = reads(circuit, line).iter().map(|read| first[read]).collect();
+            classes.sort();
+            (Some(gate.kind), classes)
+        }
+    }
+}
+
+/// For each line the first of its class. All begin in one class, and classes are split by what tells their
+/// lines apart until none is: no gate is merged here, those that nothing tells apart are left together.
+fn first_alike(circuit: &Circuit, lines: &BTreeSet<usize>) -> BTreeMap<usize, usize> {
+    let mut first: BTreeMap<usize, usize> = lines.iter().map(|&line| (line, 0)).collect();
+    loop {
+        let signs: Vec<_> = lines.iter().map(|&line| (sign(circuit, line, &first), line)).collect();
+        let alike = |own: &(Option<u8>, Vec<usize>)| signs.iter().find(|(other, _)| other == own).unwrap().1;
+        let split = signs.iter().map(|(own, line)| (*line, alike(own))).collect();
+        if split == first {
+            return first;
+        }
+        first = split;
+    }
+}
+
+/// The circuit swept: of what is reached the first of each class, and a line's number is how many of these
+/// stand before the first of its class.
+pub fn sweep(circuit: &Circuit) -> Circuit {
+    let first = first_alike(circuit, &reached(circuit));
+    let kept: BTreeSet<usize> = first.values().copied().collect();
+    let number = |line: u8| kept.range(..first[&(line as usize)]).count() as u8;
+    let renumbered = |gate: &Gate| {
+        let b = if gate.kind == NOT { 0 } else { number(gate.b) };
+        Gate { kind: gate.kind, a: number(gate.a), b }
+    };
+    let gates = kept.iter().filter_map(|&line| gate_of(circuit, line)).map(renumbered).collect();
+    let outs = circuit.outs.iter().map(|&line| number(line)).collect();
+    Circuit { n: circuit.n, gates, outs }
 }
