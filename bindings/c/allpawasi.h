@@ -10,7 +10,7 @@
  *
  * Refusals are the definition's numbers: 1 shape, 2 length, 3 mark, 4 kind, 5 operand, 6 no such line, 7 not XOR under a
  * matrix, 8 target, 9 depth above 15, 10 too shallow, 11 room too short, 12 not there, 13 nothing open, 15 bad text,
- * 16 name unknown, set twice or an input set, 17 no input, no output or an output gap. */
+ * 16 name unknown, set twice or an input set, 17 no input, no output or an output gap, 18 no gate more: 248 are there. */
 #ifndef ALLPAWASI_H
 #define ALLPAWASI_H
 
@@ -63,6 +63,11 @@ size_t allpawasi_open_table(allpawasi_bench *bench, const uint8_t *bytes, size_t
                             uint8_t max_gates, uint8_t max_depth, uint8_t max_and_depth);
 
 allpawasi_edit allpawasi_replace_gate(allpawasi_bench *bench, size_t k, size_t kind, size_t a, size_t b);
+/* The new gate is number g; its own line is listed. */
+allpawasi_edit allpawasi_append_gate(allpawasi_bench *bench, size_t kind, size_t a, size_t b);
+/* Drops the gates that no output reaches, then merges those of one kind with the same operands in either order, and closes up the
+ * numbers. The line of each gate that is kept is listed, by its new number, whether or not anything changed. */
+allpawasi_edit allpawasi_sweep(allpawasi_bench *bench);
 /* No line is examined again; the circuit's depths may be others. */
 allpawasi_edit allpawasi_point_output(allpawasi_bench *bench, size_t j, size_t line);
 allpawasi_edit allpawasi_change_entry(allpawasi_bench *bench, size_t i, size_t value);

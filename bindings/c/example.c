@@ -1,5 +1,5 @@
 /* A designer's morning in C: build an XOR program, open it, break a gate, look, mend it, store; read an equation file with a
- * slip, mend it, open it with its table. */
+ * slip, mend it, open it with its table; append a gate in another's place, point an output at it, sweep the other out. */
 #include "allpawasi.h"
 #include <stdio.h>
 #include <string.h>
@@ -13,6 +13,12 @@ static void tell(const allpawasi_bench *bench) {
     } else {
         printf("%s, %zu gates, depth %zu\n", f.verdict == 0 ? "pass" : "over a limit", f.gates, f.depth);
     }
+}
+
+static void tell_lines(const allpawasi_edit *edit) {
+    printf("reworked");
+    for (size_t i = 0; i < edit->count; i++) printf(" %d", edit->lines[i]);
+    printf("\n");
 }
 
 static size_t read_equations(const char *text, uint8_t *room, size_t room_length) {
@@ -37,9 +43,7 @@ int main(void) {
     tell(&bench);
 
     allpawasi_edit edit = allpawasi_replace_gate(&bench, 0, 0, 0, 2);
-    printf("reworked");
-    for (size_t i = 0; i < edit.count; i++) printf(" %d", edit.lines[i]);
-    printf("\n");
+    tell_lines(&edit);
     tell(&bench);
 
     printf("refused %zu\n", allpawasi_replace_gate(&bench, 0, 2, 0, 1).refusal);
@@ -52,6 +56,14 @@ int main(void) {
     read_equations("half = x0 ^ x1\ny0 = hall ^ x2\n", room, sizeof room);
     size_t count = read_equations("half = x0 ^ x1\ny0 = half ^ x2\ny1 = x0 & x1 | half & x2\n", room, sizeof room);
     printf("open %zu\n", allpawasi_open_table(&bench, room, count, table, 8, 5, 3, 2));
+    tell(&bench);
+
+    edit = allpawasi_append_gate(&bench, 0, 5, 6); /* an XOR, which does as well as the OR on line 7 */
+    tell_lines(&edit);
+    tell(&bench);
+    allpawasi_point_output(&bench, 1, 8);
+    edit = allpawasi_sweep(&bench);
+    tell_lines(&edit);
     tell(&bench);
     return 0;
 }

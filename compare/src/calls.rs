@@ -1,17 +1,19 @@
 //! Random calls on a bench, aimed at what is present on it: many keep its outputs right, and some are refused.
 
 use crate::circuits::{damaged, gate, idle_gates, pick, sketch};
-use crate::targets::{near_limits, near_target};
+use crate::duplicates::crossed;
+use crate::targets::{near_limits, near_target, target_met};
 use allpawasi::Limits;
-use reference::circuit::{write, Circuit, Gate, NOT};
+use reference::circuit::{write, Circuit, Gate};
 use reference::examine::{work, Limits as TheirLimits, Target};
-use reference::plain::bench::target_met;
 use reference::rng::Rng;
 
 /// A call with its numbers as they are given.
 pub enum Call {
     Open(Vec<u8>, Target, Limits),
     Gate([usize; 4]),
+    Append([usize; 3]),
+    Sweep,
     Output([usize; 2]),
     Entry([usize; 2]),
     Limits(Limits),
@@ -57,13 +59,15 @@ pub fn call(rng: &mut Rng, present: Option<&Present>) -> Call {
 /// A call that concerns this circuit under a matrix or a table. Now and then it is opened again with the target that it meets,
 /// since edits mostly make it wrong.
 pub fn concerning(rng: &mut Rng, c: &Circuit, matrix: bool) -> Call {
-    match rng.below(18) {
+    match rng.below(23) {
         0 | 1 => right_open(rng, c, matrix),
         2..=8 => Call::Gate(gate_edit(rng, c, matrix)),
         9..=11 => Call::Output(output_edit(rng, c)),
         12..=14 => Call::Entry(entry_edit(rng, c, matrix)),
         15 | 16 => Call::Limits(near_limits(rng, c)),
-        _ => Call::Store(near(rng, write(c).len()).min(2000)),
+        17 => Call::Store(near(rng, write(c).len()).min(2000)),
+        18..=20 => Call::Append(append_edit(rng, c, matrix)),
+        _ => Call::Sweep,
     }
 }
 
@@ -92,26 +96,42 @@ fn gate_edit(rng: &mut Rng, c: &Circuit, matrix: bool) -> [usize; 4] {
 fn turned_gate(rng: &mut Rng, c: &Circuit) -> Option<[usize; 4]> {
     let numbered: Vec<(usize, Gate)> = c.gates.iter().copied().enumerate().collect();
     let (k, gate) = pick(rng, &numbered)?;
-    let [kind, a, b] = [gate.kind, gate.a, gate.b].map(usize::from);
-    Some(if gate.kind == NOT { [k, kind, a, b] } else { [k, kind, b, a] })
+    Some(at(k, crossed(gate)))
 }
 
 /// A gate that no output reads made another one: what is held of it may change, and the outputs and the circuit's depths do not.
 fn idle_gate(rng: &mut Rng, c: &Circuit, matrix: bool) -> Option<[usize; 4]> {
     let k = pick(rng, &idle_gates(c))?;
-    let gate = gate(rng, c.n as usize + k, matrix);
-    Some([k, gate.kind.into(), gate.a.into(), gate.b.into()])
+    Some(at(k, gate(rng, c.n as usize + k, matrix)))
+}
+
+/// The numbers that put a gate in place k.
+fn at(k: usize, gate: Gate) -> [usize; 4] {
+    [k, gate.kind.into(), gate.a.into(), gate.b.into()]
 }
 
 /// Any gate, and any numbers for it, often sound ones.
 fn any_gate(rng: &mut Rng, c: &Circuit, matrix: bool) -> [usize; 4] {
     let k = near(rng, c.gates.len());
-    let line = c.n as usize + k.min(300);
+    let [kind, a, b] = any_numbers(rng, c.n as usize + k.min(300), matrix);
+    [k, kind, a, b]
+}
+
+/// The numbers of a gate for a line, often sound ones.
+fn any_numbers(rng: &mut Rng, line: usize, matrix: bool) -> [usize; 3] {
     let sound = gate(rng, line, matrix);
     let kind = if rng.once_in(5) { near(rng, 7) } else { sound.kind.into() };
     let a = if rng.once_in(5) { near(rng, line) } else { sound.a.into() };
     let b = if rng.once_in(5) { near(rng, line) } else { sound.b.into() };
-    [k, kind, a, b]
+    [kind, a, b]
+}
+
+/// A gate's numbers for an append: those of a gate that is present, its operands crossed, or any.
+pub fn append_edit(rng: &mut Rng, c: &Circuit, matrix: bool) -> [usize; 3] {
+    match turned_gate(rng, c) {
+        Some([_, kind, a, b]) if rng.once_in(3) => [kind, a, b],
+        _ => any_numbers(rng, c.lines(), matrix),
+    }
 }
 
 /// An output pointed at a line that has the same values, or any numbers.

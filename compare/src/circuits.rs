@@ -1,5 +1,6 @@
 //! Random circuits, sound and damaged.
 
+use crate::duplicates::{with_duplicates, without_duplicates};
 use reference::circuit::{write, Circuit, Gate};
 use reference::examine::work;
 use reference::rng::Rng;
@@ -38,10 +39,12 @@ pub fn any_circuit(rng: &mut Rng, only: bool) -> Circuit {
 }
 
 /// A circuit to open: mostly an XOR program whose every output sums some input, for a matrix; mostly one of eight outputs at
-/// most, for a table; often one with trial gates.
+/// most, for a table; often one with trial gates or with copies of gates.
 pub fn sketch(rng: &mut Rng, matrix: bool) -> Circuit {
-    if rng.once_in(4) {
-        return with_trial_gates(rng, matrix);
+    match rng.below(8) {
+        0 | 1 => return with_trial_gates(rng, matrix),
+        2 => return swept_or_not(rng, matrix),
+        _ => {}
     }
     if matrix {
         let only = !rng.once_in(12);
@@ -57,6 +60,15 @@ pub fn sketch(rng: &mut Rng, matrix: bool) -> Circuit {
     let g = if rng.once_in(10) { 248 } else { rng.below(40) as usize };
     let (n, m) = (rng.between(1, 8) as u8, rng.between(1, 8) as usize);
     circuit(rng, n, g, m, false)
+}
+
+/// A circuit with copies of gates, or now and then one that a sweep leaves as it is.
+pub fn swept_or_not(rng: &mut Rng, matrix: bool) -> Circuit {
+    if !rng.once_in(5) {
+        return with_duplicates(rng, matrix);
+    }
+    let (n, (g, m)) = (rng.between(2, 8) as u8, size(rng, matrix));
+    without_duplicates(rng, n, g, m, matrix)
 }
 
 /// How many gates and how many outputs, for a matrix or a table: often the most of either, and some gates always.

@@ -5,16 +5,15 @@ use crate::calls::Call;
 use crate::circuits::{circuit, pick, size, with_trial_gates};
 use crate::met::{self, Kind, Met};
 use crate::pair::Pair;
-use crate::targets::near_limits;
+use crate::targets::{near_limits, target_met};
 use allpawasi::{Limits, Report, Words};
 use reference::circuit::{write, Circuit, Gate, AND, OR, XOR};
 use reference::examine::{work, Lines};
-use reference::plain::bench::target_met;
 use reference::rng::Rng;
 use std::cmp::Ordering;
 
 /// Limits that no circuit is over.
-const LOOSE: Limits = Limits { gates: 255, depth: 255, and_depth: 255 };
+pub const LOOSE: Limits = Limits { gates: 255, depth: 255, and_depth: 255 };
 
 /// An open of a circuit with trial gates and the target that it meets, and limits near its own numbers again and again.
 pub fn trials(rng: &mut Rng, matrix: bool) -> Vec<Call> {

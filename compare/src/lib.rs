@@ -4,6 +4,7 @@
 pub mod calls;
 pub mod circuits;
 pub mod depths;
+pub mod duplicates;
 pub mod edges;
 pub mod files;
 pub mod long_files;
@@ -11,4 +12,6 @@ pub mod met;
 pub mod pair;
 pub mod programs;
 pub mod scripts;
+pub mod sweeps;
+pub mod swept;
 pub mod targets;

@@ -5,7 +5,9 @@ use std::collections::BTreeMap;
 use std::fmt;
 
 use crate::calls::Present;
+use crate::swept::{self, OF_A_GATE, OF_A_SWEEP};
 use allpawasi::Verdict;
+use reference::circuit::{check_gate, MAX_GATES};
 use reference::examine::{examine, work, Verdict as TheirVerdict};
 use reference::listing;
 
@@ -47,18 +49,35 @@ pub fn verdict(verdict: &Verdict) -> Kind {
 pub const LEFT_OUT: [&str; 5] =
     ["depth", "AND depth", "pass, not over-depth", "pass, not over-anddepth", "over-anddepth, not over-depth"];
 
+/// What an append to a full list would be refused for if there were room, and what one is that is done.
+pub const APPENDED: [&str; 6] =
+    ["full, else done", "full, else refused 4", "full, else refused 5", "full, else refused 7", "in room of a sweep", "the last"];
+
 /// A distance that was found, or that there is none.
 pub fn gates(distance: &Option<u64>) -> Kind {
     Kind::Says(distance.map_or("none".to_string(), |gates| gates.to_string()))
 }
 
-/// How often each call gave each kind of answer.
+/// How often each call gave each kind of answer, and the room that a sweep of a full list made and no append took since.
 #[derive(Default)]
-pub struct Met(BTreeMap<&'static str, BTreeMap<Kind, usize>>);
+pub struct Met {
+    times: BTreeMap<&'static str, BTreeMap<Kind, usize>>,
+    room: usize,
+}
 
 impl Met {
     pub fn count(&mut self, call: &'static str, kind: Kind) {
-        *self.0.entry(call).or_default().entry(kind).or_default() += 1;
+        self.add(call, kind, 1);
+    }
+
+    fn add(&mut self, call: &'static str, kind: Kind, times: usize) {
+        *self.times.entry(call).or_default().entry(kind).or_default() += times;
+    }
+
+    fn say(&mut self, call: &'static str, words: &str, times: usize) {
+        if times > 0 {
+            self.add(call, Kind::Says(words.to_string()), times);
+        }
     }
 
     /// Counts an answer by what is said of it where the call is done, or by its refusal.
@@ -88,14 +107,48 @@ impl Met {
         }
     }
 
+    /// Counts what a sweep of this met: what became of each gate, and of the verdict, which a sweep changes only where there were
+    /// too many gates. The counts are those of the gates that are kept.
+    pub fn swept(&mut self, before: &Present, after: &Present) {
+        let meets = swept::meets(&before.0);
+        assert_eq!(meets.gates[1], after.0.gates.len(), "gates kept of {:?}", before.0);
+        OF_A_GATE.iter().zip(meets.gates).for_each(|(words, times)| self.say("a gate swept", words, times));
+        OF_A_SWEEP.iter().zip(meets.sweep).for_each(|(words, so)| self.say("a sweep", words, so as usize));
+        let [from, to] = [before, after].map(|(c, target, limits)| listing::verdict(&examine(c, target, limits).verdict));
+        if from != to {
+            assert_eq!(from, VERDICTS[1], "a sweep makes it {to}");
+            self.say("over-gates, and swept", &to, 1);
+        }
+        self.room = if meets.sweep[4] { before.0.gates.len() - after.0.gates.len() } else { 0 };
+    }
+
+    /// Counts an append to this, whatever it is answered.
+    pub fn appended(&mut self, (c, target, _): &Present, numbers: [usize; 3]) {
+        let [kind, a, b] = numbers.map(|number| number as u64);
+        let gate = check_gate(target.xor_only(), c.lines() as u64, kind, a, b);
+        let (most, g) = (MAX_GATES as usize, c.gates.len());
+        let full = gate.map_or_else(|number| format!("full, else refused {number}"), |()| APPENDED[0].to_string());
+        self.say("an append", &full, (g == most) as usize);
+        if g < most && gate.is_ok() {
+            self.say("an append", APPENDED[4], (self.room > 0) as usize);
+            self.say("an append", APPENDED[5], (g + 1 == most) as usize);
+            self.room = self.room.saturating_sub(1);
+        }
+    }
+
+    /// Another circuit is open: the room that a sweep made was not in this one.
+    pub fn opened(&mut self) {
+        self.room = 0;
+    }
+
     fn times(&self, call: &str, kind: &Kind) -> usize {
-        self.0.get(call).and_then(|kinds| kinds.get(kind)).copied().unwrap_or(0)
+        self.times.get(call).and_then(|kinds| kinds.get(kind)).copied().unwrap_or(0)
     }
 
     /// A line for each call.
     pub fn show(&self, title: &str) {
         println!("{title}:");
-        for (call, kinds) in &self.0 {
+        for (call, kinds) in &self.times {
             let list: Vec<String> = kinds.iter().map(|(kind, times)| format!("{kind} {times}")).collect();
             println!("  {call}: {}", list.join(", "));
         }
@@ -104,14 +157,14 @@ impl Met {
     /// The call was refused with each of these numbers, and with no other.
     pub fn refused(&self, call: &str, numbers: &[usize]) {
         let of = |kind: &Kind| if let Kind::Refused(number) = kind { Some(*number) } else { None };
-        let met: Vec<usize> = self.0.get(call).into_iter().flat_map(|kinds| kinds.keys().filter_map(of)).collect();
+        let met: Vec<usize> = self.times.get(call).into_iter().flat_map(|kinds| kinds.keys().filter_map(of)).collect();
         assert_eq!(met, numbers, "the refusals that {call} met, and those it should meet");
     }
 
     /// The call was done too.
     pub fn done_and_refused(&self, call: &str, numbers: &[usize]) {
         let done = |kind: &Kind| !matches!(kind, Kind::Refused(_));
-        assert!(self.0.get(call).is_some_and(|kinds| kinds.keys().any(done)), "{call} was never done");
+        assert!(self.times.get(call).is_some_and(|kinds| kinds.keys().any(done)), "{call} was never done");
         self.refused(call, numbers);
     }
 
@@ -146,14 +199,23 @@ impl Met {
 
     /// Each verdict is a tenth of the answers to a report at least.
     pub fn verdicts(&self) {
-        let reports: usize = self.0["report"].values().sum();
+        let reports: usize = self.times["report"].values().sum();
         self.said_at_least("report", &VERDICTS, reports.div_ceil(10));
+    }
+
+    /// Each thing that may become of a gate, of a verdict and of a sweep was so often at least.
+    pub fn sweeps(&self, least: usize) {
+        self.said_at_least("a gate swept", &OF_A_GATE, least);
+        self.said_at_least("a sweep", &OF_A_SWEEP, least);
+        self.said_at_least("over-gates, and swept", &VERDICTS[2..], least);
     }
 
     /// Each call on a bench was refused with each of its numbers, and each verdict was given often.
     pub fn whole_bench(&self) {
         self.done_and_refused("open", &[1, 2, 3, 4, 5, 6, 7, 8]);
         self.done_and_refused("gate", &[4, 5, 7, 12, 13]);
+        self.done_and_refused("append", &[4, 5, 7, 13, 18]);
+        self.done_and_refused("sweep", &[13]);
         self.done_and_refused("output", &[6, 12, 13]);
         self.done_and_refused("entry", &[8, 12, 13]);
         self.done_and_refused("limits", &[13]);

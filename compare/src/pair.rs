@@ -4,6 +4,7 @@ use crate::calls::Call;
 use crate::met::{self, Kind, Met};
 use allpawasi::{Bench, Limits, Report, Verdict, Words};
 use reference::bench::Bench as Reference;
+use reference::circuit::write;
 use reference::examine::{Limits as TheirLimits, Report as TheirReport, Target, Verdict as TheirVerdict};
 use std::fmt::Debug;
 
@@ -31,6 +32,19 @@ pub fn their_limits(limits: Limits) -> TheirLimits {
     TheirLimits { gates: limits.gates, depth: limits.depth, and_depth: limits.and_depth }
 }
 
+/// Our limits, from the independent program's.
+fn our_limits(limits: &TheirLimits) -> Limits {
+    Limits { gates: limits.gates, depth: limits.depth, and_depth: limits.and_depth }
+}
+
+/// An open on our bench.
+fn open(bench: &mut Bench, bytes: &[u8], target: &Target, limits: Limits) -> Result<(), usize> {
+    match target {
+        Target::Matrix(rows) => bench.open_matrix(bytes, rows, limits),
+        Target::Table(entries) => bench.open_table(bytes, entries, limits),
+    }
+}
+
 /// Our report, from the independent program's.
 pub fn our_report(report: TheirReport) -> Report {
     Report {
@@ -55,10 +69,19 @@ pub fn value(words: &Words, x: usize) -> bool {
     words.0[x / 64] >> (x % 64) & 1 == 1
 }
 
+/// The bits of the first 2^n input values in which two lines' words differ.
+fn differing(n: u8, words: &[u64; 4], other: &[u64; 4]) -> u64 {
+    let counted = (1u32 << n).min(64);
+    let places = (1usize << n).div_ceil(64);
+    let differ = |at: usize| (words[at] ^ other[at]) << (64 - counted);
+    (0..places).map(differ).fold(0, |all, bits| all | bits)
+}
+
 impl Pair {
     /// Nothing is open any more; what was met is kept.
     pub fn clear(&mut self) {
         (self.ours, self.theirs) = (Bench::new(), Reference::new());
+        self.met.opened();
     }
 
     /// One call on both.
@@ -66,6 +89,8 @@ impl Pair {
         match call {
             Call::Open(bytes, target, limits) => self.open(bytes, target, *limits),
             Call::Gate(numbers) => drop(self.replace_gate(*numbers)),
+            Call::Append(numbers) => drop(self.append_gate(*numbers)),
+            Call::Sweep => drop(self.sweep()),
             Call::Output([j, line]) => drop(self.point_output(*j, *line)),
             Call::Entry([i, value]) => self.change_entry(*i, *value),
             Call::Limits(limits) => self.set_limits(*limits),
@@ -73,57 +98,90 @@ impl Pair {
         }
     }
 
-    /// Both answers to a call with these words are the same; they are counted.
-    fn same<T: PartialEq + Debug>(
+    /// A call with these words on both benches. The answers are the same; they are counted. A call to be refused leaves every number
+    /// on our bench as it was, also those past the last line.
+    fn both<T: PartialEq + Debug>(
         &mut self,
         call: &'static str,
         words: impl Debug,
-        ours: &Result<T, usize>,
-        theirs: Result<T, usize>,
-    ) {
-        assert_eq!(*ours, theirs, "{call} {words:02X?}");
-        self.met.answer(call, ours, |_| Kind::Done);
+        ours: impl FnOnce(&mut Bench) -> Result<T, usize>,
+        theirs: impl FnOnce(&mut Reference) -> Result<T, usize>,
+    ) -> Result<T, usize> {
+        let expected = theirs(&mut self.theirs);
+        let before = expected.is_err().then(|| self.ours.clone());
+        let answer = ours(&mut self.ours);
+        assert_eq!(answer, expected, "{call} {words:02X?}");
+        assert!(before.is_none_or(|before| self.ours == before), "{call} {words:02X?} is refused and changes the bench");
+        self.met.answer(call, &answer, |_| Kind::Done);
+        answer
     }
 
     pub fn open(&mut self, bytes: &[u8], target: &Target, limits: Limits) {
-        let ours = match target {
-            Target::Matrix(rows) => self.ours.open_matrix(bytes, rows, limits),
-            Target::Table(entries) => self.ours.open_table(bytes, entries, limits),
-        };
-        let theirs = self.theirs.open(bytes, target.clone(), their_limits(limits));
         let call = if bytes.starts_with(b"SH") && bytes.len() >= 5 { "open" } else { SHAPELESS };
-        self.same(call, (bytes, target), &ours, widen(theirs));
+        let theirs = |bench: &mut Reference| widen(bench.open(bytes, target.clone(), their_limits(limits)));
+        if self.both(call, (bytes, target), |bench| open(bench, bytes, target, limits), theirs).is_ok() {
+            self.met.opened();
+        }
     }
 
     /// The lines that were reworked, or the refusal.
     pub fn replace_gate(&mut self, [k, kind, a, b]: [usize; 4]) -> Result<Vec<u16>, usize> {
-        let ours = self.ours.replace_gate(k, kind, a, b);
-        let theirs = self.theirs.replace_gate(k as u64, kind as u64, a as u64, b as u64);
-        self.same("gate", [k, kind, a, b], &ours, lines(theirs));
-        ours
+        let theirs = |bench: &mut Reference| lines(bench.replace_gate(k as u64, kind as u64, a as u64, b as u64));
+        self.both("gate", [k, kind, a, b], |bench| bench.replace_gate(k, kind, a, b), theirs)
+    }
+
+    /// The new gate's line, or the refusal.
+    pub fn append_gate(&mut self, [kind, a, b]: [usize; 3]) -> Result<Vec<u16>, usize> {
+        if let Some(present) = &self.theirs.present {
+            self.met.appended(present, [kind, a, b]);
+        }
+        let theirs = |bench: &mut Reference| lines(bench.append_gate(kind as u64, a as u64, b as u64));
+        let answer = self.both("append", [kind, a, b], |bench| bench.append_gate(kind, a, b), theirs);
+        self.as_opened_afresh();
+        answer
+    }
+
+    /// The new lines of the gates that are kept, or the refusal. A second sweep answers the same and changes no number.
+    pub fn sweep(&mut self) -> Result<Vec<u16>, usize> {
+        let before = self.theirs.present.clone();
+        let answer = self.both("sweep", &before, Bench::sweep, |bench| lines(bench.sweep()));
+        if let (Some(before), Some(after)) = (&before, &self.theirs.present) {
+            self.met.swept(before, after);
+        }
+        let mut again = self.ours.clone();
+        assert!(again.sweep() == answer && again == self.ours, "a second sweep of {before:?}");
+        self.as_opened_afresh();
+        answer
+    }
+
+    /// Every number on our bench is that of one on which their circuit, target and limits were opened just now.
+    fn as_opened_afresh(&self) {
+        let Some((c, target, limits)) = &self.theirs.present else { return };
+        let mut fresh = Bench::new();
+        assert_eq!(open(&mut fresh, &write(c), target, our_limits(limits)), Ok(()));
+        assert!(self.ours == fresh, "the bench with {c:?} under {target:?}");
     }
 
     /// The lines that were reworked, which are none, or the refusal.
     pub fn point_output(&mut self, j: usize, line: usize) -> Result<Vec<u16>, usize> {
-        let (ours, theirs) = (self.ours.point_output(j, line), self.theirs.point_output(j as u64, line as u64));
-        self.same("output", [j, line], &ours, lines(theirs));
-        ours
+        let theirs = |bench: &mut Reference| lines(bench.point_output(j as u64, line as u64));
+        self.both("output", [j, line], |bench| bench.point_output(j, line), theirs)
     }
 
     pub fn change_entry(&mut self, i: usize, value: usize) {
-        let (ours, theirs) = (self.ours.change_entry(i, value), self.theirs.change_entry(i as u64, value as u64));
-        self.same("entry", [i, value], &ours, lines(theirs));
+        let theirs = |bench: &mut Reference| lines(bench.change_entry(i as u64, value as u64));
+        self.both("entry", [i, value], |bench| bench.change_entry(i, value), theirs).ok();
     }
 
     pub fn set_limits(&mut self, limits: Limits) {
-        let (ours, theirs) = (self.ours.set_limits(limits), self.theirs.set_limits(their_limits(limits)));
-        self.same("limits", limits, &ours, lines(theirs));
+        let theirs = |bench: &mut Reference| lines(bench.set_limits(their_limits(limits)));
+        self.both("limits", limits, |bench| bench.set_limits(limits), theirs).ok();
     }
 
     pub fn store(&mut self, length: usize) {
         let (mut room, mut other) = (vec![0x5A; length], vec![0x5A; length]);
-        let (ours, theirs) = (self.ours.store(&mut room), self.theirs.store(&mut other));
-        self.same("store", length, &ours, widen(theirs));
+        let theirs = |bench: &mut Reference| widen(bench.store(&mut other));
+        self.both("store", length, |bench| bench.store(&mut room), theirs).ok();
         assert_eq!(room, other, "room of {length}");
     }
 
@@ -154,8 +212,9 @@ impl Pair {
         let n = self.theirs.present.as_ref().map_or(0, |(c, _, _)| c.n);
         assert_eq!(depths, expected.depths, "depths");
         assert_eq!(and_depths, expected.and_depths, "AND depths");
-        for (line, words) in values.iter().enumerate() {
-            assert!((0..1 << n).all(|x| value(words, x) == expected.value(line, x)), "values of line {line}");
+        assert_eq!(values.len(), expected.values.len(), "lines");
+        for (line, (words, other)) in values.iter().zip(&expected.values).enumerate() {
+            assert!(differing(n, &words.0, other) == 0, "values of line {line}");
         }
     }
 }

@@ -53,6 +53,8 @@ fn on_bench(rng: &mut Rng, call: &Call) -> (&'static str, String) {
             ("open", format!("open {} {kind} {} {}", hex(rng, bytes), hex(rng, list), limits(rng, three)))
         }
         Call::Gate(numbers) => ("gate", format!("gate {}", typed(rng, numbers))),
+        Call::Append(numbers) => ("append", format!("append {}", typed(rng, numbers))),
+        Call::Sweep => ("sweep", "sweep".to_string()),
         Call::Output(numbers) => ("output", format!("output {}", typed(rng, numbers))),
         Call::Entry(numbers) => ("entry", format!("entry {}", typed(rng, numbers))),
         Call::Limits(three) => ("limits", format!("limits {}", limits(rng, three))),
@@ -139,14 +141,27 @@ pub fn kind(answer: &str) -> Kind {
     }
 }
 
-/// What a line should be answered, counted by the call's name; of a report or a listing also what it leaves out.
+/// The three numbers of an append that is typed.
+fn appended(line: &[u8]) -> [usize; 3] {
+    let words = String::from_utf8_lossy(line);
+    let numbers: Vec<usize> = words.split_whitespace().filter_map(|word| word.parse().ok()).collect();
+    numbers.try_into().expect("an append has three numbers")
+}
+
+/// What a line should be answered, counted by the call's name; of a report or a listing also what it leaves out, of a sweep and an
+/// append what they meet.
 fn count(met: &mut Met, bench: &mut Bench, name: &'static str, line: &[u8]) {
-    met.count(name, kind(&desk::answer(bench, line)));
-    match (name, &bench.present) {
-        ("report", Some(present)) => met.left_out("left out of a report", present),
-        ("show", Some(present)) => met.left_out("left out of a show", present),
+    let before = bench.present.clone();
+    let kind = kind(&desk::answer(bench, line));
+    match (name, &before, &bench.present) {
+        ("report", _, Some(present)) => met.left_out("left out of a report", present),
+        ("show", _, Some(present)) => met.left_out("left out of a show", present),
+        ("sweep", Some(before), Some(after)) => met.swept(before, after),
+        ("append", Some(before), _) => met.appended(before, appended(line)),
+        ("open" | "new", _, _) if kind == Kind::Done => met.opened(),
         _ => {}
     }
+    met.count(name, kind);
 }
 
 /// A session in which each of these calls is typed, and then a report and a listing are asked for.

@@ -3,8 +3,21 @@
 use allpawasi::Limits;
 use reference::circuit::Circuit;
 use reference::examine::{work, Target};
-use reference::plain::bench::target_met;
 use reference::rng::Rng;
+
+/// The target that a circuit meets: its outputs on every input value, or on those that are one input alone. A table has eight outputs
+/// at most.
+pub fn target_met(c: &Circuit, matrix: bool) -> Target {
+    let lines = work(c);
+    let output = |x: usize, j: usize| lines.value(c.outs[j].into(), x) as u8;
+    if matrix {
+        let row = |j| (0..c.n.into()).map(|i| output(1 << i, j) << i).sum();
+        Target::Matrix((0..c.outs.len()).map(row).collect())
+    } else {
+        let entry = |x| (0..c.outs.len().min(8)).map(|j| output(x, j) << j).sum();
+        Target::Table((0..1 << c.n).map(entry).collect())
+    }
+}
 
 /// The target that a circuit meets, most of the time; or that with one bit or byte another, or with a byte more or less.
 pub fn near_target(rng: &mut Rng, c: &Circuit, matrix: bool) -> Target {
@@ -59,7 +72,7 @@ pub fn near_limits(rng: &mut Rng, c: &Circuit) -> Limits {
     }
     let lines = work(c);
     let own = [c.gates.len() as u8, lines.depth(&c.outs), lines.and_depth(&c.outs)];
-    let over = if own[2] == 0 { [0, 1, 3][rng.below(3) as usize] } else { [0, 1, 2, 2, 3][rng.below(5) as usize] };
+    let over = if own[2] == 0 { [0, 1, 3][rng.below(3) as usize] } else { [0, 1, 2, 2, 2, 3][rng.below(6) as usize] };
     let places = [&mut limits.gates, &mut limits.depth, &mut limits.and_depth];
     for (at, place) in places.into_iter().enumerate().take(over + 1) {
         *place = if at < over { kept(rng, own[at]) } else { passed(rng, own[at]) };

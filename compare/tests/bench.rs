@@ -4,12 +4,12 @@ use allpawasi::{Limits, Report, Verdict};
 use compare::calls::{call, Call};
 use compare::circuits::with_trial_gates;
 use compare::depths::{play, pointings};
-use compare::met::LEFT_OUT;
+use compare::met::{APPENDED, LEFT_OUT};
 use compare::pair::{Pair, SHAPELESS};
-use compare::targets::near_limits;
-use reference::circuit::{write, Circuit, Gate, AND, XOR};
+use compare::sweeps::morning;
+use compare::targets::{near_limits, target_met};
+use reference::circuit::{write, Circuit, Gate, AND, NOT, OR, XOR};
 use reference::examine::{work, Target};
-use reference::plain::bench::target_met;
 use reference::rng::Rng;
 
 #[test]
@@ -28,6 +28,8 @@ fn random_sequences() {
     pair.met.whole_bench();
     pair.met.refused(SHAPELESS, &[2, 3]);
     pair.met.said_at_least("left out of a report", &LEFT_OUT, 1_000);
+    pair.met.sweeps(50);
+    pair.met.said_at_least("an append", &APPENDED[..5], 50);
 }
 
 fn limits(gates: u8, depth: u8, and_depth: u8) -> Limits {
@@ -111,6 +113,115 @@ fn outputs_to_and_fro() {
     pair.met.said_at_least("pointed: verdict", &["pass to over-depth", "over-depth to pass"], 500);
     pair.met.said_at_least("pointed: verdict", &["pass to over-anddepth", "over-anddepth to pass"], 500);
     pair.met.said_at_least("pointed", &["at a line that another output names", "at an input", "every output at an input"], 500);
+}
+
+/// Circuits with trial gates and copies, swept again and again between appends and pointings.
+#[test]
+fn sweeps_and_appends() {
+    let (mut rng, mut pair) = (Rng::new(8), Pair::default());
+    for round in 0..1_200 {
+        for call in morning(&mut rng, round % 3 == 0) {
+            pair.make(&call);
+            pair.look();
+        }
+    }
+    pair.met.show("sweeps and appends");
+    pair.met.sweeps(200);
+    pair.met.said_at_least("an append", &APPENDED, 5);
+}
+
+/// A circuit of these gates; its outputs name the last line and these.
+fn listed(n: u8, gates: &[[u8; 3]], outs: &[u8]) -> Circuit {
+    let gates: Vec<Gate> = gates.iter().map(|&[kind, a, b]| Gate { kind, a, b }).collect();
+    let outs = [&[n + (gates.len() - 1) as u8], outs].concat();
+    Circuit { n, gates, outs }
+}
+
+/// Full lists of one kind of gate, and how many gates a sweep keeps: one gate all the way, in turn crossed; two chains of equal
+/// gates one after the other, and the two in turn, so that each merge needs the one before it; one chain alone.
+fn full_lists(kind: u8) -> Vec<(Circuit, usize)> {
+    let b = |line: u8| if kind == NOT { 0 } else { line };
+    let crossed = |k: u8| if k % 2 == 0 || kind == NOT { [kind, 6, b(7)] } else { [kind, 7, 6] };
+    let link = |before: u8| if before % 2 == 0 || kind == NOT { [kind, before, b(0)] } else { [kind, 0, before] };
+    let after = |k: u8| link(if k % 124 == 0 { 1 } else { 7 + k });
+    let in_turn = |k: u8| link(if k < 2 { 1 } else { 6 + k });
+    let list = |gate: &dyn Fn(u8) -> [u8; 3], outs: &[u8]| listed(8, &(0..248).map(gate).collect::<Vec<_>>(), outs);
+    vec![
+        (list(&crossed, &[8, 100]), 1),
+        (list(&after, &[131, 3]), 124),
+        (list(&in_turn, &[254]), 124),
+        (list(&|k| link(7 + k), &[]), 248),
+    ]
+}
+
+/// Each full list is swept; then the freed gates are appended again, and not one more, whatever its numbers are.
+#[test]
+fn full_lists_swept() {
+    for kind in XOR..=NOT {
+        for (c, kept) in full_lists(kind) {
+            let (mut pair, table) = (Pair::default(), Target::Table(vec![0; 256]));
+            pair.open(&write(&c), &table, limits(248, 255, 255));
+            assert_eq!(pair.sweep(), Ok((8..8 + kept as u16).collect()), "{c:?}");
+            pair.look();
+            for (k, gate) in (kept..).zip(&c.gates[kept..]) {
+                assert_eq!(pair.append_gate([gate.kind, gate.a, gate.b].map(usize::from)), Ok(vec![8 + k as u16]));
+            }
+            for numbers in [[0, 0, 1], [7, 0, 0], [0, 256, 0], [6, 0, 1], [usize::MAX; 3]] {
+                assert_eq!(pair.append_gate(numbers), Err(18));
+            }
+            pair.look();
+            pair.sweep().expect("it is open");
+            pair.look();
+        }
+    }
+}
+
+/// A chain of so many ORs without copies, and one more gate; outputs name that and the end of the chain. The lines that a sweep
+/// keeps, and the lines of both outputs after it.
+fn one_more_swept(pair: &mut Pair, links: u8, more: [u8; 3]) -> (Vec<u16>, Vec<u8>) {
+    let gates: Vec<[u8; 3]> = (0..links).map(|k| [OR, 7 + k, 0]).chain([more]).collect();
+    pair.open(&write(&listed(8, &gates, &[7 + links])), &Target::Table(vec![0; 256]), limits(248, 255, 255));
+    let kept = pair.sweep().expect("it is open");
+    let outs = pair.theirs.present.as_ref().map(|(c, _, _)| c.outs.clone());
+    (kept, outs.expect("it is open"))
+}
+
+/// A copy is found at each place of the longest list, and at the last and a middle place of a list of each length; a gate whose kind
+/// and operands are all 0 is found in none.
+#[test]
+fn a_copy_at_each_place() {
+    let mut pair = Pair::default();
+    let places = (1..=247).flat_map(|links| [(links, links - 1), (links, links / 2)]).chain((0..247).map(|k| (247, k)));
+    for (links, k) in places {
+        let kept = (8..8 + u16::from(links)).collect();
+        assert_eq!(one_more_swept(&mut pair, links, [OR, 0, 7 + k]), (kept, vec![8 + k, 7 + links]), "{links} and gate {k}");
+    }
+    for links in 1..=247 {
+        let kept = (8..9 + u16::from(links)).collect();
+        assert_eq!(one_more_swept(&mut pair, links, [XOR, 0, 0]), (kept, vec![8 + links, 7 + links]), "{links} and a new one");
+    }
+}
+
+/// What is there to refuse is refused in this order: 13, 18, 4, 5, 7.
+#[test]
+fn appends_are_refused_in_order() {
+    let mut pair = Pair::default();
+    let worst = [usize::MAX; 3];
+    assert_eq!((pair.append_gate(worst), pair.sweep()), (Err(13), Err(13)));
+    let c = listed(8, &[[XOR, 6, 7]; 247], &[]);
+    pair.open(&write(&c), &Target::Matrix(vec![192]), limits(0, 0, 0));
+    assert_eq!(pair.append_gate(worst), Err(4));
+    assert_eq!(pair.append_gate([7, 0, 0]), Err(4));
+    assert_eq!(pair.append_gate([AND.into(), 255, 0]), Err(5));
+    assert_eq!(pair.append_gate([NOT.into(), 0, 1]), Err(5));
+    assert_eq!(pair.append_gate([AND.into(), 254, 254]), Err(7));
+    assert_eq!(pair.append_gate([XOR.into(), 254, 254]), Ok(vec![255]));
+    assert_eq!(pair.append_gate(worst), Err(18));
+    assert_eq!(report(&mut pair).verdict, Verdict::OverGates);
+    assert_eq!(pair.sweep(), Ok(vec![8]));
+    assert_eq!((report(&mut pair).gates, report(&mut pair).verdict), (1, Verdict::OverGates));
+    assert_eq!(pair.append_gate([XOR.into(), 8, 8]), Ok(vec![9]));
+    assert_eq!(report(&mut pair).gates, 2);
 }
 
 /// A chain of 248 gates, each of which reads the line before it: the depth of gate k is k + 1.

@@ -1,6 +1,6 @@
 //! The library beside the plain ways of the independent program, which keep no table and hold no words: the builder and the
-//! distance by every set of lines, the distance by every program, circuits worked input value by input value, and equation
-//! files by splitting their text.
+//! distance by every set of lines, the distance by every program, circuits worked input value by input value, sweeps by classes
+//! of lines, and equation files by splitting their text.
 
 use allpawasi::distance;
 use compare::calls::{concerning, Call};
@@ -9,7 +9,8 @@ use compare::depths::{play, pointings, trials};
 use compare::files::{damaged, file};
 use compare::met::{gates, Kind, Met, LEFT_OUT};
 use compare::pair::{our_report, value, Pair};
-use compare::targets::{near_limits, near_target};
+use compare::sweeps::morning;
+use compare::targets::{near_limits, near_target, target_met};
 use reference::circuit::write;
 use reference::plain::{bench, builder, equations};
 use reference::rng::Rng;
@@ -78,26 +79,43 @@ fn as_worked_plainly(pair: &Pair) {
     assert_eq!(pair.ours.report(), Ok(our_report(bench::examine(c, target, limits))));
 }
 
-/// A call, and where it replaced a gate its list of lines.
+/// A call, and where it replaced a gate its list of lines, where it swept the circuit too.
 fn make(pair: &mut Pair, call: &Call) {
-    let Call::Gate(numbers) = call else { return pair.make(call) };
-    if let Ok(reworked) = pair.replace_gate(*numbers) {
+    match call {
+        Call::Gate(numbers) => replace(pair, *numbers),
+        Call::Sweep => sweep(pair),
+        _ => pair.make(call),
+    }
+}
+
+fn replace(pair: &mut Pair, numbers: [usize; 4]) {
+    if let Ok(reworked) = pair.replace_gate(numbers) {
         let (c, _, _) = pair.theirs.present.as_ref().expect("a gate was replaced");
         let readers = bench::readers(c, numbers[0]);
         assert!(reworked.into_iter().map(usize::from).eq(readers), "readers of gate {} of {c:?}", numbers[0]);
     }
 }
 
+fn sweep(pair: &mut Pair) {
+    let (before, _, _) = pair.theirs.present.clone().expect("something is open");
+    let (reworked, plain) = (pair.sweep().expect("something is open"), bench::sweep(&before));
+    assert!(reworked.into_iter().map(usize::from).eq(plain.n.into()..plain.lines()), "lines kept of {before:?}");
+    let mut room = [0; 1341];
+    let count = pair.ours.store(&mut room).expect("there is room");
+    assert_eq!(room[..count], write(&plain), "sweep of {before:?}");
+}
+
 /// Circuits of 8 inputs, 248 gates and 8 outputs, opened and edited.
 #[test]
 fn circuits_of_the_most_gates() {
     let (mut rng, mut pair) = (Rng::new(24), Pair::default());
-    for round in 0..200 {
+    for round in 0..400 {
         let matrix = round % 2 == 0;
         let mut c = circuit(&mut rng, 8, 248, 8, matrix);
         if matrix {
             point_at_sums(&mut rng, &mut c);
         }
+        assert_eq!(target_met(&c, matrix), bench::target_met(&c, matrix), "what is met by {c:?}");
         let mut call = Call::Open(write(&c), near_target(&mut rng, &c, matrix), near_limits(&mut rng, &c));
         for _ in 0..8 {
             make(&mut pair, &call);
@@ -127,6 +145,20 @@ fn depths_that_end_at_outputs() {
     pair.met.said_at_least("left out of a report", &LEFT_OUT, 100);
     pair.met.said_at_least("pointed: depth", &["greater", "less", "kept by another output"], 100);
     pair.met.said_at_least("pointed: AND depth", &["greater", "less", "kept by another output"], 100);
+}
+
+/// Mornings of sweeps, appends and pointings; sweeps by classes of lines that nothing tells apart.
+#[test]
+fn sweeps_by_classes() {
+    let (mut rng, mut pair) = (Rng::new(27), Pair::default());
+    for round in 0..200 {
+        for call in morning(&mut rng, round % 3 == 0) {
+            make(&mut pair, &call);
+            as_worked_plainly(&pair);
+        }
+    }
+    pair.met.show("sweeps by classes");
+    pair.met.sweeps(5);
 }
 
 /// Equation files of up to 2,000 bytes, as they are and damaged.

@@ -4,9 +4,10 @@
 use compare::depths::{pointings, trials};
 use compare::files::{damaged, file};
 use compare::long_files::{designers, worst};
-use compare::met::{Met, LEFT_OUT};
+use compare::met::{Met, APPENDED, LEFT_OUT};
 use compare::programs::{run, start};
 use compare::scripts::{kind, script, session};
+use compare::sweeps::morning;
 use reference::examine::work;
 use reference::rng::Rng;
 use reference::{builder, desk, program};
@@ -36,6 +37,8 @@ fn whole_language(met: &Met) {
     met.said("spoiled", &["unreadable", "nothing"]);
     met.said_at_least("left out of a report", &LEFT_OUT, 100);
     met.said_at_least("left out of a show", &LEFT_OUT, 10);
+    met.sweeps(5);
+    met.said_at_least("an append", &APPENDED[..5], 10);
 }
 
 #[test]
@@ -73,6 +76,19 @@ fn depths_that_end_at_outputs() {
     met.show("depths that end at outputs");
     met.said_at_least("left out of a report", &LEFT_OUT, 100);
     met.said_at_least("left out of a show", &LEFT_OUT, 100);
+}
+
+/// Sweeps, appends and pointings typed, with a report and a listing after each call.
+#[test]
+fn sweeps_and_appends() {
+    let (mut rng, mut met) = (Rng::new(18), Met::default());
+    for round in 0..150 {
+        let calls = morning(&mut rng, round % 3 == 0);
+        let text = session(&mut rng, &calls, &mut met);
+        same("desk", &text, &desk::run(&text));
+    }
+    met.show("sweeps and appends");
+    met.sweeps(10);
 }
 
 #[test]

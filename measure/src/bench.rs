@@ -1,16 +1,22 @@
-//! Open, edits of the first, a middle and the last gate, and report. The native bench examines when it is asked what it holds or
+//! Open, edits of the first, a middle and the last gate, report, sweep and append. The native bench examines when it is asked what it holds or
 //! for a report, this one when something changes.
 
 use crate::{keep, row};
 use allpawasi::{Bench, Limits};
 use compare::circuits::circuit;
+use compare::duplicates::{with_duplicates, without_duplicates};
+use compare::targets::target_met;
 use reference::bench::Bench as Native;
 use reference::circuit::{read, write, Circuit};
-use reference::examine::{work, Limits as NativeLimits, Target};
+use reference::examine::{Limits as NativeLimits, Target};
 use reference::rng::Rng;
+use reference::sweep::sweep;
 use std::hint::black_box;
 
 const CALLS: usize = 2_000;
+
+const LOOSE: Limits = Limits { gates: 255, depth: 255, and_depth: 255 };
+const NATIVE_LOOSE: NativeLimits = NativeLimits { gates: 255, depth: 255, and_depth: 255 };
 
 /// The published AES S-box of 113 gates, with its table.
 fn aes() -> (Circuit, Vec<u8>) {
@@ -20,12 +26,16 @@ fn aes() -> (Circuit, Vec<u8>) {
     (read(&hex(words[1]), false).expect("sound"), hex(words[2]))
 }
 
+/// The entries of the table that a circuit meets.
+fn table_met(c: &Circuit) -> Vec<u8> {
+    let (Target::Table(list) | Target::Matrix(list)) = target_met(c, false);
+    list
+}
+
 /// A circuit of 248 gates with the table that it computes.
 fn largest() -> (Circuit, Vec<u8>) {
     let c = circuit(&mut Rng::new(7), 8, 248, 8, false);
-    let lines = work(&c);
-    let entry = |x: usize| c.outs.iter().enumerate().map(|(j, &o)| (lines.value(o.into(), x) as u8) << j).sum();
-    let table = (0..256).map(entry).collect();
+    let table = table_met(&c);
     (c, table)
 }
 
@@ -62,15 +72,13 @@ fn rows(name: &str, (ours, theirs): &mut (Bench, Native), call: impl Fn(&mut Ben
 pub fn measure() {
     for (name, (c, table)) in [("AES S-box, 113 gates", aes()), ("248 gates", largest())] {
         let bytes = write(&c);
-        let limits = Limits { gates: 255, depth: 255, and_depth: 255 };
-        let native_limits = NativeLimits { gates: 255, depth: 255, and_depth: 255 };
         let target = Target::Table(table.clone());
         let mut both = (Bench::new(), Native::new());
         rows(
             &format!("open, {name}"),
             &mut both,
-            |ours| keep(ours.open_table(black_box(&bytes), &table, limits)),
-            |theirs| keep(theirs.open(black_box(&bytes), target.clone(), native_limits)),
+            |ours| keep(ours.open_table(black_box(&bytes), &table, LOOSE)),
+            |theirs| keep(theirs.open(black_box(&bytes), target.clone(), NATIVE_LOOSE)),
         );
         let last = c.gates.len() - 1;
         for (place, k) in [("first", 0), ("middle", last / 2), ("last", last)] {
@@ -90,4 +98,59 @@ pub fn measure() {
             || (0..CALLS).for_each(|_| keep(theirs.report())),
         );
     }
+}
+
+/// Full lists to sweep: the slow one, in which no gate is equal to any of those before it, and one of which a third goes at least.
+fn to_sweep() -> [(&'static str, Circuit); 2] {
+    let rng = &mut Rng::new(10);
+    let slow = without_duplicates(rng, 8, 248, 8, false);
+    let is_muddled = |c: &Circuit| c.n == 8 && c.gates.len() == 248 && sweep(c).gates.len() < 165;
+    let muddled = (0..).map(|_| with_duplicates(rng, false)).find(is_muddled).expect("there is one");
+    [("248 gates, none goes", slow), ("248 gates, a third goes", muddled)]
+}
+
+/// Both benches with a circuit and the table that it meets.
+fn opened(c: &Circuit) -> (Bench, Native) {
+    let (mut both, bytes, table) = ((Bench::new(), Native::new()), write(c), table_met(c));
+    both.0.open_table(&bytes, &table, LOOSE).expect("sound");
+    both.1.open(&bytes, Target::Table(table), NATIVE_LOOSE).expect("sound");
+    both
+}
+
+/// A sweep changes the bench, so that each begins with a copy of the full list, on both sides.
+pub fn measure_sweeps() {
+    for (name, c) in to_sweep() {
+        let (full, native_full) = opened(&c);
+        rows(
+            &format!("sweep, {name}"),
+            &mut (full.clone(), native_full.clone()),
+            |ours| {
+                ours.clone_from(&full);
+                keep(ours.sweep());
+            },
+            |theirs| {
+                theirs.clone_from(&native_full);
+                keep(theirs.sweep());
+            },
+        );
+    }
+}
+
+/// Gates appended to one until the list is full; then, once in 248 calls, it begins again with a copy, on both sides.
+pub fn measure_appends() {
+    let (short, native_short) = opened(&circuit(&mut Rng::new(11), 8, 1, 8, false));
+    rows(
+        "append, up to 248 gates",
+        &mut (short.clone(), native_short.clone()),
+        |ours| {
+            if ours.append_gate(black_box(2), 8, 3).is_err() {
+                ours.clone_from(&short);
+            }
+        },
+        |theirs| {
+            if theirs.append_gate(black_box(2), 8, 3).is_err() {
+                theirs.clone_from(&native_short);
+            }
+        },
+    );
 }

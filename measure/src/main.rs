@@ -51,6 +51,8 @@ fn head(unit: &str) {
 fn main() {
     head("µs");
     bench::measure();
+    bench::measure_sweeps();
+    bench::measure_appends();
     distance::measure();
     builder::measure();
     println!();

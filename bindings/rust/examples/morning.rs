@@ -1,5 +1,5 @@
 //! A designer's morning in Rust: build an XOR program, open it, break a gate, look, mend it, store; read an equation file with
-//! a slip, mend it, open it with its table.
+//! a slip, mend it, open it with its table; append a gate in another's place, point an output at it, sweep the other out.
 
 use allpawasi::{build, distance, equations, Bench, Limits, Refusal};
 
@@ -28,6 +28,12 @@ fn main() -> Result<(), Refusal> {
     println!("read {count} bytes");
     let ones = [0, 1, 1, 2, 1, 2, 2, 3]; // how many of three inputs are 1
     bench.open_table(&room[..count], &ones, Limits { gates: 5, depth: 3, and_depth: 2 })?;
+    println!("{:?}", bench.report()?.verdict);
+
+    println!("reworked {:?}", bench.append_gate(0, 5, 6)?); // an XOR, which does as well as the OR on line 7
+    println!("{:?}", bench.report()?.verdict);
+    bench.point_output(1, 8)?;
+    println!("reworked {:?}", bench.sweep()?);
     println!("{:?}", bench.report()?.verdict);
     Ok(())
 }

@@ -5,7 +5,7 @@ mod raw;
 
 pub use raw::Words;
 
-/// The definition's number of a refusal, 1 to 13 or 15 to 17.
+/// The definition's number of a refusal, 1 to 13 or 15 to 18.
 pub type Refusal = usize;
 
 /// Why an equation file was not read. 15 and 16 have a place: the number of bytes before it.
@@ -44,7 +44,9 @@ pub struct Report {
     pub verdict: Verdict,
 }
 
-/// One circuit, one target and three limits, with what is held for each line.
+/// One circuit, one target and three limits, with what is held for each line. Two are equal where every number of theirs is, also
+/// those past the last gate, output, entry and line.
+#[derive(Clone, PartialEq, Eq)]
 pub struct Bench(Box<raw::Bench>);
 
 impl Default for Bench {
@@ -72,6 +74,17 @@ impl Bench {
     /// Replaces gate k, and gives the lines that were examined again.
     pub fn replace_gate(&mut self, k: usize, kind: usize, a: usize, b: usize) -> Result<Vec<u16>, Refusal> {
         reworked(raw::replace_gate(&mut self.0, k, kind, a, b))
+    }
+
+    /// Adds a gate after the last one, and gives its line.
+    pub fn append_gate(&mut self, kind: usize, a: usize, b: usize) -> Result<Vec<u16>, Refusal> {
+        reworked(raw::append_gate(&mut self.0, kind, a, b))
+    }
+
+    /// Drops the gates that no output reaches, merges those of one kind with the same operands in either order, and closes up
+    /// the numbers. It gives the new line of each gate that is kept.
+    pub fn sweep(&mut self) -> Result<Vec<u16>, Refusal> {
+        reworked(raw::sweep(&mut self.0))
     }
 
     /// Points output j at a line. No line is examined again; the circuit's depths may be others.

@@ -14,6 +14,7 @@ const VALUES: usize = 256;
 pub struct Words(pub [u64; 4]);
 
 #[repr(C)]
+#[derive(Clone, PartialEq, Eq)]
 pub struct Bench {
     pub is_open: bool,
     pub is_matrix: bool,
@@ -90,6 +91,8 @@ extern "C" {
     fn allpawasi_open_matrix(bench: &mut Bench, bytes: *const u8, length: usize, rows: *const u8, count: usize, gates: u8, depth: u8, ands: u8) -> usize;
     fn allpawasi_open_table(bench: &mut Bench, bytes: *const u8, length: usize, entries: *const u8, count: usize, gates: u8, depth: u8, ands: u8) -> usize;
     fn allpawasi_replace_gate(bench: &mut Bench, k: usize, kind: usize, a: usize, b: usize) -> Edit;
+    fn allpawasi_append_gate(bench: &mut Bench, kind: usize, a: usize, b: usize) -> Edit;
+    fn allpawasi_sweep(bench: &mut Bench) -> Edit;
     fn allpawasi_point_output(bench: &mut Bench, j: usize, line: usize) -> Edit;
     fn allpawasi_change_entry(bench: &mut Bench, i: usize, value: usize) -> Edit;
     fn allpawasi_set_limits(bench: &mut Bench, gates: u8, depth: u8, ands: u8) -> Edit;
@@ -111,6 +114,14 @@ pub fn open_table(bench: &mut Bench, bytes: &[u8], entries: &[u8], limits: Limit
 
 pub fn replace_gate(bench: &mut Bench, k: usize, kind: usize, a: usize, b: usize) -> Edit {
     unsafe { allpawasi_replace_gate(bench, k, kind, a, b) }
+}
+
+pub fn append_gate(bench: &mut Bench, kind: usize, a: usize, b: usize) -> Edit {
+    unsafe { allpawasi_append_gate(bench, kind, a, b) }
+}
+
+pub fn sweep(bench: &mut Bench) -> Edit {
+    unsafe { allpawasi_sweep(bench) }
 }
 
 pub fn point_output(bench: &mut Bench, j: usize, line: usize) -> Edit {
