@@ -1,4 +1,4 @@
--- Laws of the beginning and of the end: the inputs as a base, the rows' distances from them, and the circuit as the code holds it.
+-- Laws of the beginning and of the end: the inputs at their arrivals as a base, the rows' distances from them, and the circuit as the code holds it.
 use mathlib.Core.Bool.{Bool, true, false, cond}
 use mathlib.Core.List.{List, [], _∷_, _++_, map}
 use mathlib.Core.Path.{_≡_, refl, sym, ap, ap₂, _∙_, subst}
@@ -6,155 +6,153 @@ use Prim.Native.Nat.{ℕ, zero, suc, _+_, _-_, _*_, _^_, _≤_, _<_}
 use native.Mathlib.Omega.{arith}
 use borrow.Author.Tests.{ltb-false}
 use lib.Dec.{eqb}
-use lib.ListN.{length, getD, take, replicate, length-append, length-map, length-replicate, replicate-append-replicate}
-use lib.Seq.{take-at}
+use lib.ListN.{length, getD, take, replicate, length-append, length-map}
 use Rattle.circuit.specs.Lines.{padded, Gate}
 use Rattle.circuit.specs.Structs.{column, held}
 use Rattle.circuit.specs.Sizes.{mostInputs, mostOutputs, mostGates, mostLines}
-use Rattle.circuit.proofs.Padding.{padded-none, padded-same}
-use Rattle.distance.specs.Base.{Line, line, baseOf, Xor, made, run, Small, Shallow, inputs, weight}
+use Rattle.circuit.proofs.Padding.{padded-none, padded-same, padded-length, padded-take, pad-read}
+use Rattle.distance.specs.Base.{Line, line, baseOf, Xor, made, run, Shallow, arriving, weight, load}
 use Rattle.distance.specs.Distance.{gates, distance}
 use Rattle.distance.proofs.Fewest.{distance-fewest, fewest-distance}
-use Rattle.distance.proofs.Weight.{distance-inputs, small-inputs, no-weight, weight-le}
+use Rattle.distance.proofs.Weight.{distance-arriving, small-arriving, no-weight, weight-le}
 use Rattle.builder.specs.declared.grow.State.{State}
-use Rattle.builder.specs.Rule.{Row, row, reach, count, distances, sum, lowest, taken, nextGate, greedy, xorGate, greedyCircuit}
-use Rattle.builder.specs.Call.{within, built, tooHeavy}
-use Rattle.builder.specs.Kept.{SoundRows, Alive, rowsOf, base, Poised, SoFar, Grown, Fit, Begun}
-use Rattle.builder.proofs.Refusals.{Accepted, fit, any-none}
-
--- ---- one limit for all rows
-pub limits-taken : (m D : ℕ) → m ≤ mostOutputs → take m (replicate mostOutputs D) ≡ replicate m D
-limits-taken m D h =
-    let e : mostOutputs ≡ m + (mostOutputs - m) = omega arith in
-    ap (λ (x : ℕ). take m (replicate x D)) e
-    ∙ ap (take m) (sym (replicate-append-replicate m (mostOutputs - m) D))
-    ∙ take-at (replicate m D) (replicate (mostOutputs - m) D) m (length-replicate m D)
-
-rows-same : (D : ℕ) (ts : List ℕ) → rowsOf ts (replicate (length ts) D) ≡ within D ts
-rows-same D [] = refl
-rows-same D (t ∷ ts) = ap (λ (l : List Row). row t D ∷ l) (rows-same D ts)
-
-pub rows-within : (D : ℕ) (ts : List ℕ) → length ts ≤ mostOutputs → rowsOf ts (take (length ts) (replicate mostOutputs D)) ≡ within D ts
-rows-within D ts h = ap (rowsOf ts) (limits-taken (length ts) D h) ∙ rows-same D ts
+use Rattle.builder.specs.Rule.{Row, row, rowsOf, reach, count, distances, sum, lowest, taken, nextGate, greedy, xorGate, greedyCircuit}
+use Rattle.builder.specs.Late.{tooLate, lateBuilt}
+use Rattle.builder.specs.Kept.{SoundRows, Alive, Held, base, Poised, SoFar, Grown, Fit, Looking, Begun}
+use Rattle.builder.proofs.Lists.{rows-length, rows-at}
+use Rattle.builder.proofs.Refusals.{Accepted, looking, any-none}
 
 -- ---- the inputs
-is-inputs : (n : ℕ) → n ≤ mostInputs → baseOf (take n (1 ∷ 2 ∷ 4 ∷ 8 ∷ 16 ∷ 32 ∷ 64 ∷ 128 ∷ replicate mostGates 0)) (take n (replicate mostLines 0)) ≡ inputs n
-is-inputs zero h = refl
-is-inputs (suc zero) h = refl
-is-inputs (suc (suc zero)) h = refl
-is-inputs (suc (suc (suc zero))) h = refl
-is-inputs (suc (suc (suc (suc zero)))) h = refl
-is-inputs (suc (suc (suc (suc (suc zero))))) h = refl
-is-inputs (suc (suc (suc (suc (suc (suc zero)))))) h = refl
-is-inputs (suc (suc (suc (suc (suc (suc (suc zero))))))) h = refl
-is-inputs (suc (suc (suc (suc (suc (suc (suc (suc zero)))))))) h = refl
-is-inputs (suc (suc (suc (suc (suc (suc (suc (suc (suc n))))))))) h = absurd (omega arith)
+is-arriving : (ar : List ℕ) → length ar ≤ mostInputs → baseOf (take (length ar) (1 ∷ 2 ∷ 4 ∷ 8 ∷ 16 ∷ 32 ∷ 64 ∷ 128 ∷ replicate mostGates 0)) ar ≡ arriving (length ar) ar
+is-arriving [] h = refl
+is-arriving (a ∷ []) h = refl
+is-arriving (a ∷ b ∷ []) h = refl
+is-arriving (a ∷ b ∷ c ∷ []) h = refl
+is-arriving (a ∷ b ∷ c ∷ d ∷ []) h = refl
+is-arriving (a ∷ b ∷ c ∷ d ∷ e ∷ []) h = refl
+is-arriving (a ∷ b ∷ c ∷ d ∷ e ∷ f ∷ []) h = refl
+is-arriving (a ∷ b ∷ c ∷ d ∷ e ∷ f ∷ g ∷ []) h = refl
+is-arriving (a ∷ b ∷ c ∷ d ∷ e ∷ f ∷ g ∷ k ∷ []) h = refl
+is-arriving (a ∷ b ∷ c ∷ d ∷ e ∷ f ∷ g ∷ k ∷ l ∷ ar) h = absurd (omega arith)
 
-pub inputs-length : (n : ℕ) → length (inputs n) ≡ n
-inputs-length zero = refl
-inputs-length (suc n) = omega (arith, length-append (inputs n) (line (2 ^ n) 0 ∷ []), inputs-length n)
+pub arriving-length : (n : ℕ) (ar : List ℕ) → length (arriving n ar) ≡ n
+arriving-length zero ar = refl
+arriving-length (suc n) ar = omega (arith, length-append (arriving n ar) (line (2 ^ n) (getD ar n 0) ∷ []), arriving-length n ar)
 
-pub begun-base : (n : ℕ) (ts : List ℕ) (s : State) → n ≤ mostInputs → Begun n ts s → base s ≡ inputs n
+pub begun-base : (n : ℕ) (ar ts : List ℕ) (s : State) → Fit n ar ts → Begun n ar ts s → base s ≡ arriving n ar
 unfolding base
-begun-base n ts s h b = (λ i. baseOf (take (b .long i) (b .masks-are i)) (take (b .long i) (b .depths-are i))) ∙ is-inputs n h
+begun-base n ar ts s f b =
+    let M : List ℕ = 1 ∷ 2 ∷ 4 ∷ 8 ∷ 16 ∷ 32 ∷ 64 ∷ 128 ∷ replicate mostGates 0 in
+    let e = sym (f .arrivals) in
+    (λ i. baseOf (take (b .long i) (b .masks-are i)) (take (b .long i) (b .depths-are i)))
+    ∙ ap (baseOf (take n M)) (padded-take mostLines 0 ar n e)
+    ∙ ap (λ (k : ℕ). baseOf (take k M) ar) e
+    ∙ is-arriving ar (omega (arith, f .arrivals, f .inputs))
+    ∙ ap (λ (k : ℕ). arriving k ar) (sym e)
+
+-- the table of the inputs is that of its base
+pub begun-table : (n : ℕ) (ar ts : List ℕ) (s : State) (h : List ℕ) → Fit n ar ts → Begun n ar ts s → Held h (arriving n ar) 9 → Held h (base s) 9
+begun-table n ar ts s h f b o = subst (λ (ls : List Line). Held h ls 9) (sym (begun-base n ar ts s f b)) o
 
 -- ---- the rows' distances from the inputs
 
 -- a row that is not refused
-pub record Right (n D t : ℕ) : Type 0 where
+pub record Right (n : ℕ) (ar : List ℕ) (t D : ℕ) : Type 0 where
   pub some : t ≡ 0 → ⊥
   pub below : t < 2 ^ n
-  pub light : weight n t ≤ 2 ^ D
+  pub shallow : D < 16
+  pub light : load n ar t ≤ 2 ^ D
 
-pub reach-inputs : (n D t : ℕ) → n ≤ mostInputs → D ≤ 15 → Right n D t → reach (inputs n) (row t D) ≡ gates (weight n t - 1)
+pub reach-arriving : (n : ℕ) (ar : List ℕ) (t D : ℕ) → n ≤ mostInputs → Right n ar t D → reach (arriving n ar) (row t D) ≡ gates (weight n t - 1)
 unfolding reach
-reach-inputs n D t h d r = go (weight n t) refl
+reach-arriving n ar t D h r = go (weight n t) refl
   where
-    go : (w : ℕ) → weight n t ≡ w → distance 8 (inputs n) t D ≡ gates (weight n t - 1)
+    go : (w : ℕ) → weight n t ≡ w → distance 8 (arriving n ar) t D ≡ gates (weight n t - 1)
     go zero e = absurd (r .some (no-weight n t (r .below) e))
     go (suc w) e =
         let z : w ≡ weight n t - 1 = omega arith in
-        let i = distance-inputs n t D w (r .below) (omega arith) e (omega (arith, r .light)) in
-        let f = distance-fewest n (inputs n) t D w (small-inputs n n (omega arith)) (r .some) i in
-        fewest-distance 8 (inputs n) t D (small-inputs 8 n h) (r .some) w f ∙ ap gates z
+        let i = distance-arriving n ar t D w (r .below) (r .shallow) e (r .light) in
+        let f = distance-fewest n (arriving n ar) t D w (small-arriving n n ar (omega arith)) (r .some) i in
+        fewest-distance 8 (arriving n ar) t D (small-arriving 8 n ar h) (r .some) w f ∙ ap gates z
 
-module _ (n D : ℕ) (inputs-few : n ≤ 8) (depth : D ≤ 15) where
-  abbrev Rights : List ℕ → Type 0
-  Rights ts = (i : ℕ) → i < length ts → Right n D (getD ts i 0)
+module _ (n : ℕ) (ar : List ℕ) (inputs-few : n ≤ mostInputs) where
+  abbrev pub Rights : List ℕ → List ℕ → Type 0
+  Rights ts ds = (i : ℕ) → i < length ts → Right n ar (getD ts i 0) (getD ds i 0)
 
-  first-distances : (ts : List ℕ) → Rights ts → map (λ (t : ℕ). weight n t - 1) ts ≡ distances (inputs n) (within D ts)
-  first-distances [] f = refl
-  first-distances (t ∷ ts) f =
-      ap₂ (λ (x : ℕ) (l : List ℕ). x ∷ l) (sym (ap count (reach-inputs n D t inputs-few depth (f 0 (omega arith))))) (first-distances ts (λ i h. f (suc i) (omega arith)))
+  first-distances : (ts ds : List ℕ) → length ts ≡ length ds → Rights ts ds → map (λ (t : ℕ). weight n t - 1) ts ≡ distances (arriving n ar) (rowsOf ts ds)
+  first-distances [] ds e f = refl
+  first-distances (t ∷ ts) [] e f = absurd (omega arith)
+  first-distances (t ∷ ts) (d ∷ ds) e f =
+      ap₂ (λ (x : ℕ) (l : List ℕ). x ∷ l) (sym (ap count (reach-arriving n ar t d inputs-few (f 0 (omega arith))))) (first-distances ts ds (omega arith) (λ i h. f (suc i) (omega arith)))
 
-  pub first-alive : (ts : List ℕ) → Rights ts → Alive (inputs n) (within D ts)
-  first-alive [] f = tt
-  first-alive (t ∷ ts) f = ((weight n t - 1, reach-inputs n D t inputs-few depth (f 0 (omega arith))), first-alive ts (λ i h. f (suc i) (omega arith)))
+  pub first-alive : (ts ds : List ℕ) → length ts ≡ length ds → Rights ts ds → Alive (arriving n ar) (rowsOf ts ds)
+  first-alive [] ds e f = tt
+  first-alive (t ∷ ts) [] e f = absurd (omega arith)
+  first-alive (t ∷ ts) (d ∷ ds) e f = ((weight n t - 1, reach-arriving n ar t d inputs-few (f 0 (omega arith))), first-alive ts ds (omega arith) (λ i h. f (suc i) (omega arith)))
 
-  pub first-sound : (ts : List ℕ) → Rights ts → SoundRows (within D ts)
-  first-sound [] f = tt
-  first-sound (t ∷ ts) f = (record { some = f 0 (omega arith) .some; shallow = omega arith }, first-sound ts (λ i h. f (suc i) (omega arith)))
+  pub first-sound : (ts ds : List ℕ) → length ts ≡ length ds → Rights ts ds → SoundRows (rowsOf ts ds)
+  first-sound [] ds e f = tt
+  first-sound (t ∷ ts) [] e f = absurd (omega arith)
+  first-sound (t ∷ ts) (d ∷ ds) e f = (record { some = f 0 (omega arith) .some; shallow = f 0 (omega arith) .shallow }, first-sound ts ds (omega arith) (λ i h. f (suc i) (omega arith)))
 
   -- the sum over rows of weight less one
-  pub first-sum : (ts : List ℕ) → Rights ts → sum (distances (inputs n) (within D ts)) ≡ sum (map (λ (t : ℕ). weight n t - 1) ts)
-  first-sum ts f = ap sum (sym (first-distances ts f))
+  pub first-sum : (ts ds : List ℕ) → length ts ≡ length ds → Rights ts ds → sum (distances (arriving n ar) (rowsOf ts ds)) ≡ sum (map (λ (t : ℕ). weight n t - 1) ts)
+  first-sum ts ds e f = ap sum (sym (first-distances ts ds e f))
 
-  pub first-little : (ts : List ℕ) → Rights ts → sum (map (λ (t : ℕ). weight n t - 1) ts) ≤ 7 * length ts
+  pub first-little : (ts : List ℕ) → ((i : ℕ) → getD ts i 0 < 2 ^ n) → sum (map (λ (t : ℕ). weight n t - 1) ts) ≤ 7 * length ts
   first-little [] f = omega arith
-  first-little (t ∷ ts) f = omega (arith, weight-le n t (f 0 (omega arith) .below), first-little ts (λ i h. f (suc i) (omega arith)))
+  first-little (t ∷ ts) f = omega (arith, weight-le n t (f 0), first-little ts (λ i. f (suc i)))
 
 -- an accepted call has such rows
-pub rights : (n : ℕ) (ts : List ℕ) (D : ℕ) → Accepted n ts D → (i : ℕ) → i < length ts → Right n D (getD ts i 0)
-rights n ts D a i h =
-    let f = fit n ts (a .shape) (a .rows) in
-    record { some = f .some i h; below = f .below i; light = ltb-false (2 ^ D) (weight n (getD ts i 0)) (any-none (tooHeavy n D) ts (a .light) i h) }
+pub rights : (n : ℕ) (ar ts ds : List ℕ) → Accepted n ar ts ds → (i : ℕ) → i < length ts → Right n ar (getD ts i 0) (getD ds i 0)
+rights n ar ts ds a i h =
+    let l = looking n ar ts ds (a .ahead) in
+    let r = rows-at ts ds i (l .limits) in
+    let late = any-none (tooLate n ar) (rowsOf ts ds) (row 0 0) (a .light) i (omega (arith, rows-length ts ds (l .limits))) in
+    record {
+      some = l .fit .some i h;
+      below = l .fit .below i;
+      shallow = l .shallow i;
+      light = ltb-false (2 ^ getD ds i 0) (load n ar (getD ts i 0)) (ap (tooLate n ar) (sym r) ∙ late);
+    }
 
 -- ---- the state before the first step stands
-module _ (n : ℕ) (ts : List ℕ) (D : ℕ) (a : Accepted n ts D) (s : State) (b : Begun n ts s) (wide : length (s .masks) ≡ mostLines) where
-  abbrev limits : List ℕ
-  limits = take (length ts) (replicate mostOutputs D)
+module _ (n : ℕ) (ar ts ds : List ℕ) (a : Accepted n ar ts ds) (s : State) (b : Begun n ar ts s) (wide : length (s .masks) ≡ mostLines) where
+  seen : Looking n ar ts ds
+  seen = looking n ar ts ds (a .ahead)
 
-  few : Fit n ts
-  few = fit n ts (a .shape) (a .rows)
+  base-is : base s ≡ arriving n ar
+  base-is = begun-base n ar ts s (seen .fit) b
 
-  rows-are : rowsOf ts limits ≡ within D ts
-  rows-are = rows-within D ts (few .few)
+  R : (i : ℕ) → i < length ts → Right n ar (getD ts i 0) (getD ds i 0)
+  R = rights n ar ts ds a
 
-  base-is : base s ≡ inputs n
-  base-is = begun-base n ts s (few .inputs) b
+  few-inputs : n ≤ mostInputs
+  few-inputs = seen .fit .inputs
 
-  R : (i : ℕ) → i < length ts → Right n D (getD ts i 0)
-  R = rights n ts D a
+  padded-early : (i : ℕ) → getD (padded mostLines 0 ar) i 0 < 16
+  padded-early i = omega (arith, pad-read ar (mostLines - length ar) i 0, seen .fit .early i)
 
-  zeros : (i : ℕ) → getD (replicate mostLines 0) i 0 < 16
-  zeros i = shallow mostLines i
-    where
-      shallow : (k i : ℕ) → getD (replicate k 0) i 0 < 16
-      shallow zero i = omega arith
-      shallow (suc k) zero = omega arith
-      shallow (suc k) (suc i) = shallow k i
+  sum-small : sum (distances (arriving n ar) (rowsOf ts ds)) ≤ 224
+  sum-small = omega (arith, first-sum n ar few-inputs ts ds (seen .limits) R, first-little n ar few-inputs ts (seen .fit .below), seen .fit .few)
 
-  sum-small : sum (distances (inputs n) (within D ts)) ≤ 224
-  sum-small = omega (arith, first-sum n D (few .inputs) (a .depth) ts R, first-little n D (few .inputs) (a .depth) ts R, few .few)
-
-  poised : Poised ts limits s
+  poised : Poised ts ds s
   poised =
       record {
-        within = omega (arith, b .long, few .inputs);
+        within = omega (arith, b .long, few-inputs);
         wide = wide;
-        deep = ap length (b .depths-are) ∙ length-replicate {A = ℕ} mostLines 0;
-        shallow = subst Shallow (sym (b .depths-are)) zeros;
-        paired = sym (ap length (limits-taken (length ts) D (few .few)) ∙ length-replicate (length ts) D);
-        few = few .few;
-        sound = subst SoundRows (sym rows-are) (first-sound n D (few .inputs) (a .depth) ts R);
-        small = subst (Small 8) (sym base-is) (small-inputs 8 n (few .inputs));
-        alive = rw (base-is, rows-are) (first-alive n D (few .inputs) (a .depth) ts R);
-        near = rw (base-is, rows-are) (omega (arith, sum-small));
+        deep = ap length (b .depths-are) ∙ padded-length mostLines 0 ar (omega (arith, seen .fit .arrivals, few-inputs));
+        shallow = subst Shallow (sym (b .depths-are)) padded-early;
+        paired = seen .limits;
+        few = seen .fit .few;
+        sound = first-sound n ar few-inputs ts ds (seen .limits) R;
+        alive = rw base-is (first-alive n ar few-inputs ts ds (seen .limits) R);
+        near = rw base-is (omega (arith, sum-small));
         gaps-are =
-            b .gaps-are ∙ ap (padded mostOutputs 0) (first-distances n D (few .inputs) (a .depth) ts R ∙ (λ i. distances (sym base-is i) (sym rows-are i)));
+            b .gaps-are ∙ ap (padded mostOutputs 0) (first-distances n ar few-inputs ts ds (seen .limits) R ∙ ap (λ (l : List Line). distances l (rowsOf ts ds)) (sym base-is));
       }
 
-  pub stands : SoFar (base s) ts limits s
+  pub stands : SoFar (base s) ts ds s
   unfolding taken
   stands =
       let z : 224 - s .count ≡ 224 = omega (arith, b .none) in
@@ -163,12 +161,12 @@ module _ (n : ℕ) (ts : List ℕ) (D : ℕ) (a : Accepted n ts D) (s : State) (
         so-far = [];
         counted = sym (b .none);
         upto = omega (arith, b .none);
-        written = ap (λ (k : ℕ). greedy k (base s) (rowsOf ts limits)) (sym z);
-        ran = ap (λ (k : ℕ). run (base s) (greedy k (base s) (rowsOf ts limits))) (sym z);
+        written = ap (λ (k : ℕ). greedy k (base s) (rowsOf ts ds)) (sym z);
+        ran = ap (λ (k : ℕ). run (base s) (greedy k (base s) (rowsOf ts ds))) (sym z);
         lefts = b .lefts ∙ sym (padded-none mostGates 0);
         rights = b .rights ∙ sym (padded-none mostGates 0);
-        few-inputs = omega (arith, ap length base-is, inputs-length n, few .inputs);
-        long = omega (arith, b .long, b .none, ap length base-is, inputs-length n);
+        few-inputs = omega (arith, ap length base-is, arriving-length n ar, few-inputs);
+        long = omega (arith, b .long, b .none, ap length base-is, arriving-length n ar);
       }
 
 -- ---- the circuit as the code holds it
@@ -197,17 +195,23 @@ pub taken-few : (ls : List Line) (rs : List Row) → length (taken ls rs) ≤ 22
 unfolding taken
 taken-few ls rs = greedy-few 224 ls rs
 
-pub circuit-held : (n : ℕ) (ts : List ℕ) (D : ℕ) (s : State) (outs : List ℕ) → length ts ≤ mostOutputs → Grown (inputs n) (within D ts) s
-    → outs ≡ padded mostOutputs 0 (map (lowest (base s)) (within D ts))
-    → record { n = n; m = length ts; g = s .count; kinds = replicate mostGates 0; left = s .left; right = s .right; outputs = outs } ≡ held (built n ts D)
-unfolding built greedyCircuit
-circuit-held n ts D s outs h g e =
-    let gs = taken (inputs n) (within D ts) in
-    let few = taken-few (inputs n) (within D ts) in
+pub circuit-held : (n m : ℕ) (ls : List Line) (rs : List Row) (s : State) (outs : List ℕ) → m ≡ length rs → Grown ls rs s
+    → outs ≡ padded mostOutputs 0 (map (lowest (base s)) rs)
+    → record { n = n; m = m; g = s .count; kinds = replicate mostGates 0; left = s .left; right = s .right; outputs = outs } ≡ held (greedyCircuit n ls rs)
+unfolding greedyCircuit
+circuit-held n m ls rs s outs h g e =
+    let gs = taken ls rs in
+    let few = taken-few ls rs in
     let k = kinds-zero gs (omega arith) in
     let l = g .lefts ∙ ap (padded mostGates 0) (fields (λ (q : Xor). q .a) (λ (q : Gate). q .left) (λ q. refl) gs) in
     let r = g .rights ∙ ap (padded mostGates 0) (fields (λ (q : Xor). q .b) (λ (q : Gate). q .right) (λ q. refl) gs) in
-    let o = e ∙ ap (λ (x : List Line). padded mostOutputs 0 (map (lowest x) (within D ts))) (g .lines-are) in
+    let o = e ∙ ap (λ (x : List Line). padded mostOutputs 0 (map (lowest x) rs)) (g .lines-are) in
     let c = g .counted ∙ sym (length-map gs xorGate) in
-    let m : length ts ≡ length (map (lowest (run (inputs n) gs)) (within D ts)) = sym (length-map (within D ts) (lowest (run (inputs n) gs)) ∙ length-map ts (λ (t : ℕ). row t D)) in
-    λ i. record { n = n; m = m i; g = c i; kinds = k i; left = l i; right = r i; outputs = o i }
+    let q : m ≡ length (map (lowest (run ls gs)) rs) = h ∙ sym (length-map rs (lowest (run ls gs))) in
+    λ i. record { n = n; m = q i; g = c i; kinds = k i; left = l i; right = r i; outputs = o i }
+
+pub late-held : (n : ℕ) (ar ts ds : List ℕ) (s : State) (outs : List ℕ) → length ts ≡ length ds → Grown (arriving n ar) (rowsOf ts ds) s
+    → outs ≡ padded mostOutputs 0 (map (lowest (base s)) (rowsOf ts ds))
+    → record { n = n; m = length ts; g = s .count; kinds = replicate mostGates 0; left = s .left; right = s .right; outputs = outs } ≡ held (lateBuilt n ar ts ds)
+unfolding lateBuilt
+late-held n ar ts ds s outs e g o = circuit-held n (length ts) (arriving n ar) (rowsOf ts ds) s outs (sym (rows-length ts ds e)) g o

@@ -13,8 +13,7 @@ use lib.ListN.{length, getD, drop, drop-of-length-le}
 use Rattle.circuit.proofs.Depths.{deeper-is}
 use Rattle.circuit.proofs.Lists.{drop-at-next}
 use Rattle.distance.specs.Base.{Line, baseOf, Xor, xor, made, Shallow}
-use Rattle.builder.specs.Rule.{Row, row, away, distances, sum, squares, makes, firstIn, firstPair, immediate, Best, best, better, scored, consider, alongLine, allPairs, bestPair, nextGate}
-use Rattle.builder.specs.Kept.{rowsOf}
+use Rattle.builder.specs.Rule.{Row, row, rowsOf, away, distances, sum, squares, makes, firstIn, firstPair, immediate, Best, best, better, scored, consider, alongLine, allPairs, bestPair, nextGate}
 use Rattle.builder.proofs.Lists.{made-at, rows-at, rows-length}
 
 -- ---- one pair against the best so far

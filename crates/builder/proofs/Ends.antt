@@ -9,12 +9,12 @@ use native.Mathlib.Omega.{arith}
 use borrow.Author.Tests.{le-leb, leb-true, eqb-true, eqb-false, eq-eqb, ltb-true, ltb-false}
 use lib.Dec.{leb, ltb, eqb}
 use lib.ListN.{length}
-use Rattle.distance.specs.Base.{Line, Xor, xor, made, run, Reads, Small, Program}
+use Rattle.distance.specs.Base.{Line, Xor, xor, made, run, Reads, Program}
 use Rattle.distance.specs.Distance.{gates}
 use Rattle.distance.proofs.Tests.{clash, both-cases}
 use Rattle.builder.specs.Rule.{Row, reach, count, away, distances, sum, deepest, makes, firstIn, firstPair, immediate, Best, start, better, scored, consider, alongLine, allPairs, distancesAfter, bestPair, nextGate, greedy}
 use Rattle.builder.specs.Kept.{SoundRow, SoundRows, Alive}
-use Rattle.builder.proofs.Reach.{small-made, reach-fewest, reach-more, reach-program, reach-pair, now-made, last-makes}
+use Rattle.builder.proofs.Reach.{reach-lt, reach-fewest, reach-more, reach-program, reach-pair, now-made, last-makes}
 
 -- a row is among the rows
 pub data In (r : Row) : List Row → Type 0 where
@@ -30,13 +30,13 @@ limit-le here = omega arith
 limit-le (there i) = omega (arith, limit-le i)
 
 -- ---- one line more
-module _ (ls : List Line) (l : Line) (small : Small 8 ls) (smaller : Small 8 (ls ++ (l ∷ []))) where
+module _ (ls : List Line) (l : Line) where
   pub alive-more : (rs : List Row) → SoundRows rs → Alive ls rs → Alive (ls ++ (l ∷ [])) rs
   alive-more [] s a = tt
-  alive-more (r ∷ rs) s a = let u = reach-more ls l r small smaller (s .0) (a .0 .0) (a .0 .1) in ((u .at, u .is), alive-more rs (s .1) (a .1))
+  alive-more (r ∷ rs) s a = let u = reach-more ls l r (s .0) (a .0 .0) (a .0 .1) in ((u .at, u .is), alive-more rs (s .1) (a .1))
 
   away-more : (r : Row) (g : ℕ) → SoundRow r → reach ls r ≡ gates g → away (ls ++ (l ∷ [])) r ≤ away ls r
-  away-more r g s e = let u = reach-more ls l r small smaller s g e in omega (arith, ap count (u .is), ap count e, u .le)
+  away-more r g s e = let u = reach-more ls l r s g e in omega (arith, ap count (u .is), ap count e, u .le)
 
   sum-more : (rs : List Row) → SoundRows rs → Alive ls rs → sum (distances (ls ++ (l ∷ [])) rs) ≤ sum (distances ls rs)
   sum-more [] s a = omega arith
@@ -202,21 +202,18 @@ pub record Less (ls : List Line) (rs : List Row) (g : Xor) : Type 0 where
   pub two : g .b < length ls
   pub deep : made ls g .depth ≤ deepest rs
 
-module _ (ls : List Line) (rs : List Row) (small : Small 8 ls) (sound : SoundRows rs) (alive : Alive ls rs) where
-  abbrev smaller : (g : Xor) → Small 8 (ls ++ (made ls g ∷ []))
-  smaller g = small-made 8 ls g small
-
+module _ (ls : List Line) (rs : List Row) (sound : SoundRows rs) (alive : Alive ls rs) where
   -- a gate after which a row has a program of fewer gates makes the sum fall
   nearer : (u : Row) (k : ℕ) (g : Xor) → In u rs → reach ls u ≡ gates (suc k) → Program (ls ++ (made ls g ∷ [])) k (u .mask) (u .limit)
       → sum (distances (ls ++ (made ls g ∷ [])) rs) < sum (distances ls rs)
   nearer u k g i e p =
-      let f = reach-program (ls ++ (made ls g ∷ [])) u (smaller g) (sound-in sound i) k p in
-      sum-less ls (made ls g) small (smaller g) u rs sound alive i (omega (arith, ap count (f .is), f .le, ap count e))
+      let f = reach-program (ls ++ (made ls g ∷ [])) u (sound-in sound i) k (omega (arith, reach-lt ls u (suc k) e)) p in
+      sum-less ls (made ls g) u rs sound alive i (omega (arith, ap count (f .is), f .le, ap count e))
 
   best-less : sum (distances ls rs) ≤ 4096 → 0 < sum (distances ls rs) → Less ls rs (bestPair ls rs)
   best-less cap h =
       let r = a-row ls rs alive h in
-      let p = reach-pair ls (r .one) small (sound-in sound (r .in-it)) (r .less) (r .is) in
+      let p = reach-pair ls (r .one) (sound-in sound (r .in-it)) (r .less) (r .is) in
       let q = nearer (r .one) (r .less) (xor (p .i) (p .j)) (r .in-it) (r .is) (p .program) in
       let w = all-left ls rs (length ls) 0 start (omega arith) (inl (omega arith)) in
       let o = w .own (p .i) (p .j) (omega arith) (omega (arith, p .order, p .within)) (p .order) (p .within) (omega (arith, p .depth, limit-le (r .in-it))) in
@@ -225,9 +222,9 @@ module _ (ls : List Line) (rs : List Row) (small : Small 8 ls) (sound : SoundRow
   one-less : (u : Row) → In u rs → reach ls u ≡ gates 1 → Less ls rs (firstPair ls u (length ls) 0)
   one-less u i e =
       let ok = sound-in sound i in
-      let p = reach-pair ls u small ok 0 e in
+      let p = reach-pair ls u ok 0 e in
       let pair = xor (p .i) (p .j) in
-      let m = last-makes ls (made ls pair) (u .mask) (u .limit) (reach-fewest ls u small ok 1 e .least) (p .program) in
+      let m = last-makes ls (made ls pair) (u .mask) (u .limit) (reach-fewest ls u ok 1 e .least) (p .program) in
       let t : makes u (made ls pair) ≡ true = rw (eq-eqb (made ls pair .mask) (u .mask) (m .0), le-leb (made ls pair .depth) (u .limit) (m .1)) in
       let g = first-pair ls u (length ls) 0 (p .i) (p .j) (omega arith) (omega arith) (omega (arith, p .order, p .within)) (p .order) (p .within) t in
       let k = firstPair ls u (length ls) 0 in
@@ -256,44 +253,31 @@ module _ (ls : List Line) (rs : List Row) (small : Small 8 ls) (sound : SoundRow
 
 -- ---- all the steps
 
--- no line is deeper than D
-abbrev pub Within : ℕ → List Line → Type 0
-Within D [] = Unit {0}
-Within D (l ∷ ls) = (l .depth ≤ D) × Within D ls
-
-pub within-snoc : (D : ℕ) (ls : List Line) (l : Line) → Within D ls → l .depth ≤ D → Within D (ls ++ (l ∷ []))
-within-snoc D [] l w h = (h, tt)
-within-snoc D (x ∷ ls) l w h = (w .0, within-snoc D ls l (w .1) h)
-
--- the gates make every row, are at most as many as the first distances sum to, read lines below their own, and are not too deep
+-- the gates make every row, are at most as many as the first distances sum to, and read lines below their own
 pub record Reached (ls : List Line) (rs : List Row) (gs : List Xor) : Type 0 where
   pub done : sum (distances (run ls gs) rs) ≡ 0
   pub few : length gs ≤ sum (distances ls rs)
   pub reads : Reads ls gs
   pub alive : Alive (run ls gs) rs
-  pub small : Small 8 (run ls gs)
-  pub deep : (D : ℕ) → deepest rs ≤ D → Within D ls → Within D (run ls gs)
 
-pub enough : (f : ℕ) (ls : List Line) (rs : List Row) → Small 8 ls → SoundRows rs → Alive ls rs → sum (distances ls rs) ≤ 4096 → sum (distances ls rs) ≤ f → Reached ls rs (greedy f ls rs)
-enough zero ls rs s z a c h = record { done = omega arith; few = omega arith; reads = tt; alive = a; small = s; deep = λ D p w. w }
-enough (suc f) ls rs s z a c h =
+pub enough : (f : ℕ) (ls : List Line) (rs : List Row) → SoundRows rs → Alive ls rs → sum (distances ls rs) ≤ 4096 → sum (distances ls rs) ≤ f → Reached ls rs (greedy f ls rs)
+enough zero ls rs z a c h = record { done = omega arith; few = omega arith; reads = tt; alive = a }
+enough (suc f) ls rs z a c h =
     let g = nextGate ls rs in
     go (eqb (sum (distances ls rs)) 0) refl
-    (λ q. enough f (ls ++ (made ls g ∷ [])) rs (small-made 8 ls g s) z (alive-more ls (made ls g) s (small-made 8 ls g s) rs z a) (omega (arith, q .less)) (omega (arith, q .less)))
+    (λ q. enough f (ls ++ (made ls g ∷ [])) rs z (alive-more ls (made ls g) rs z a) (omega (arith, q .less)) (omega (arith, q .less)))
   where
     go : (x : Bool) → eqb (sum (distances ls rs)) 0 ≡ x
         → (Less ls rs (nextGate ls rs) → Reached (ls ++ (made ls (nextGate ls rs) ∷ [])) rs (greedy f (ls ++ (made ls (nextGate ls rs) ∷ [])) rs))
         → Reached ls rs (cond x [] (nextGate ls rs ∷ greedy f (ls ++ (made ls (nextGate ls rs) ∷ [])) rs))
-    go true e r = record { done = eqb-true (sum (distances ls rs)) 0 e; few = omega arith; reads = tt; alive = a; small = s; deep = λ D p w. w }
+    go true e r = record { done = eqb-true (sum (distances ls rs)) 0 e; few = omega arith; reads = tt; alive = a }
     go false e r =
         let k : 0 < sum (distances ls rs) = let ne = eqb-false (sum (distances ls rs)) 0 e in omega arith in
-        let q = next-less ls rs s z a c k in
+        let q = next-less ls rs z a c k in
         let b = r q in
         record {
           done = b .done;
           few = omega (arith, b .few, q .less);
           reads = (q .one, q .two, b .reads);
           alive = b .alive;
-          small = b .small;
-          deep = λ D p w. b .deep D p (within-snoc D ls (made ls (nextGate ls rs)) w (omega (arith, q .deep)));
         }

@@ -9,6 +9,7 @@ use Rattle.stored.specs.Stored.{stored, gateBytes, outBytes}
 use Rattle.distance.specs.Base.{xor}
 use Rattle.builder.specs.Rule.{reach, taken, xorGate, greedyCircuit}
 use Rattle.builder.specs.Call.{built, refusal}
+use Rattle.builder.specs.Late.{lateBuilt, lateRefusal}
 
 pub k1 : stored (built 3 (3 ∷ 7 ∷ 6 ∷ []) 2)
     ≡ 0x53 ∷ 0x48 ∷ 3 ∷ 3 ∷ 3 ∷ 0x47 ∷ 0x54 ∷ 0 ∷ 0 ∷ 1 ∷ 0x47 ∷ 0x54 ∷ 0 ∷ 2 ∷ 3 ∷ 0x47 ∷ 0x54 ∷ 0 ∷ 1 ∷ 2 ∷ 0x4F ∷ 0x50 ∷ 3 ∷ 0x4F ∷ 0x50 ∷ 4 ∷ 0x4F ∷ 0x50 ∷ 5 ∷ []
@@ -40,3 +41,13 @@ sound = (refl, refl, refl, refl)
 pub edge : (refusal 8 (255 ∷ []) 2 ≡ Refused TooShallow) × (refusal 8 (255 ∷ []) 3 ≡ Done)
 unfolding refusal shaped
 edge = (refl, refl)
+
+-- ---- late signals: K2 with x0 at depth 2. Row 7 can no longer add x2 to x0 + x1, which is there at depth 3; x0 is added to x1 + x2
+pub late : lateBuilt 3 (2 ∷ 0 ∷ 0 ∷ []) (3 ∷ 7 ∷ 6 ∷ []) (3 ∷ 3 ∷ 3 ∷ []) ≡ listing 3 (xorGate (xor 0 1) ∷ xorGate (xor 1 2) ∷ xorGate (xor 0 4) ∷ []) (3 ∷ 5 ∷ 4 ∷ [])
+unfolding reach taken greedyCircuit lateBuilt
+late = refl
+
+-- it is not refused; with limit 2 for row 7, whose inputs come to 4 + 1 + 1, it is refused 10
+pub late-edge : (lateRefusal 3 (2 ∷ 0 ∷ 0 ∷ []) (3 ∷ 7 ∷ 6 ∷ []) (3 ∷ 3 ∷ 3 ∷ []) ≡ Done) × (lateRefusal 3 (2 ∷ 0 ∷ 0 ∷ []) (3 ∷ 7 ∷ 6 ∷ []) (3 ∷ 2 ∷ 3 ∷ []) ≡ Refused TooShallow)
+unfolding lateRefusal shaped
+late-edge = (refl, refl)

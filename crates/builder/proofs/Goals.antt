@@ -1,7 +1,7 @@
 -- Laws of the goals: the sums over the goals are the sums over the rows, and the ways that the loops over goals go.
 use mathlib.Core.List.{List, [], _∷_, _++_}
 use mathlib.Core.Path.{_≡_, refl, sym, ap, ap₂, _∙_}
-use Prim.Native.Nat.{ℕ, zero, suc, _+_, _-_, _*_, _^_, _≤_, _<_}
+use Prim.Native.Nat.{ℕ, zero, suc, _+_, _-_, _*_, _≤_, _<_}
 use native.Mathlib.Nat.{mul-le-mul}
 use native.Mathlib.Omega.{arith}
 use lib.ListN.{length, getD, take, drop, set, length-append, drop-of-length-le}
@@ -10,23 +10,23 @@ use Rattle.circuit.specs.Lines.{greatest, padded}
 use Rattle.circuit.specs.Sizes.{mostOutputs}
 use Rattle.circuit.proofs.Padding.{padded-none, padded-put}
 use Rattle.circuit.proofs.Lists.{drop-at-next}
-use Rattle.distance.specs.Base.{Line, Xor, made, Small}
+use Rattle.distance.specs.Base.{Line, Xor, made}
+use Rattle.distance.specs.Distance.{gates}
 use Rattle.distance.specs.Table.{costAt}
-use Rattle.distance.proofs.Entries.{cost-is}
-use Rattle.builder.specs.Rule.{row, away, distances, sum, squares, distancesAfter}
-use Rattle.builder.specs.Kept.{SoundRow, SoundRows, rowsOf, Held, nextGap, nextGaps, misses, missed, added, goalsAfter, goalsWith, toGo, placeOf, roomOf, lowOf, Aimed, Goals}
-use Rattle.builder.proofs.Lookup.{look-made, look-up, misses-le}
+use Rattle.builder.specs.Rule.{row, rowsOf, reach, count, away, distances, sum, squares, distancesAfter}
+use Rattle.builder.specs.Kept.{SoundRows, Alive, nextGap, nextGaps, missed, added, goalsAfter, toGo, placeOf, roomOf, lowOf, Tells, Aimed, Goals}
+use Rattle.builder.proofs.Reach.{after-made, after-gate}
 use Rattle.builder.proofs.Lists.{take-next}
 
--- ---- sums over the goals, from a place on
-module _ (h : List ℕ) (m c : ℕ) where
+-- ---- sums over the goals, from a place on, where f answers of each
+module _ (f : ℕ → ℕ → ℕ) where
   missed-next : (ps fs : List ℕ) (i : ℕ) → length ps ≡ length fs → i < length ps
-      → missed h m c (drop i ps) (drop i fs) ≡ misses h (getD ps i 0) (getD fs i 0) m c ∷ missed h m c (drop (i + 1) ps) (drop (i + 1) fs)
-  missed-next ps fs i e p = ap₂ (missed h m c) (drop-at-next ps i 0 p) (drop-at-next fs i 0 (omega arith))
+      → missed f (drop i ps) (drop i fs) ≡ f (getD ps i 0) (getD fs i 0) ∷ missed f (drop (i + 1) ps) (drop (i + 1) fs)
+  missed-next ps fs i e p = ap₂ (missed f) (drop-at-next ps i 0 p) (drop-at-next fs i 0 (omega arith))
 
   -- i goals are weighed, and s is the sum so far
   pub record Missed (ps fs gs : List ℕ) (i s : ℕ) : Type 0 where
-    pub total : sum (goalsAfter h m c ps fs gs) ≡ s + sum (missed h m c (drop i ps) (drop i fs))
+    pub total : sum (goalsAfter f ps fs gs) ≡ s + sum (missed f (drop i ps) (drop i fs))
     pub small : s ≤ sum gs + i
 
   sum-added : (xs ys : List ℕ) → length xs ≡ length ys → sum (added xs ys) ≡ sum xs + sum ys
@@ -35,51 +35,49 @@ module _ (h : List ℕ) (m c : ℕ) where
   sum-added (x ∷ xs) [] e = absurd (omega arith)
   sum-added (x ∷ xs) (y ∷ ys) e = omega (arith, sum-added xs ys (omega arith))
 
-  missed-length : (ps fs : List ℕ) → length ps ≡ length fs → length (missed h m c ps fs) ≡ length ps
+  missed-length : (ps fs : List ℕ) → length ps ≡ length fs → length (missed f ps fs) ≡ length ps
   missed-length [] fs e = refl
   missed-length (p ∷ ps) [] e = absurd (omega arith)
-  missed-length (p ∷ ps) (f ∷ fs) e = ap suc (missed-length ps fs (omega arith))
+  missed-length (p ∷ ps) (r ∷ fs) e = ap suc (missed-length ps fs (omega arith))
+
+  -- and the same of the squares
+  pub record Squared (ps fs gs : List ℕ) (i s : ℕ) : Type 0 where
+    pub total : squares (goalsAfter f ps fs gs) ≡ s + squares (goalsAfter f (drop i ps) (drop i fs) (drop i gs))
+    pub small : s ≤ 64 * i
 
   module _ (ps fs gs : List ℕ) (g : Goals ps fs gs) where
     pub missed-start : Missed ps fs gs 0 (sum gs)
     missed-start =
-        record { total = sum-added gs (missed h m c ps fs) (omega (arith, missed-length ps fs (omega (arith, g .places, g .rooms)), g .places)); small = omega arith }
+        record { total = sum-added gs (missed f ps fs) (omega (arith, missed-length ps fs (omega (arith, g .places, g .rooms)), g .places)); small = omega arith }
 
-    pub missed-more : (i s : ℕ) → i < length ps → Missed ps fs gs i s → Missed ps fs gs (i + 1) (s + misses h (getD ps i 0) (getD fs i 0) m c)
-    missed-more i s p w =
-        let n = ap sum (missed-next ps fs i (omega (arith, g .places, g .rooms)) p) in
-        record {
-          total = omega (arith, w .total, n);
-          small = omega (arith, w .small, misses-le h (getD ps i 0) (getD fs i 0) m c);
-        }
-
-    pub missed-end : (i s : ℕ) → length ps ≤ i → Missed ps fs gs i s → sum (goalsAfter h m c ps fs gs) ≡ s
+    pub missed-end : (i s : ℕ) → length ps ≤ i → Missed ps fs gs i s → sum (goalsAfter f ps fs gs) ≡ s
     missed-end i s p w =
-        let z : missed h m c (drop i ps) (drop i fs) ≡ [] = ap (λ (l : List ℕ). missed h m c l (drop i fs)) (drop-of-length-le ps p) in
+        let z : missed f (drop i ps) (drop i fs) ≡ [] = ap (λ (l : List ℕ). missed f l (drop i fs)) (drop-of-length-le ps p) in
         omega (arith, w .total, ap sum z)
 
-  -- and the same of the squares
-  pub record Squared (ps fs gs : List ℕ) (i s : ℕ) : Type 0 where
-    pub total : squares (goalsAfter h m c ps fs gs) ≡ s + squares (goalsAfter h m c (drop i ps) (drop i fs) (drop i gs))
-    pub small : s ≤ 64 * i
-
-  module _ (ps fs gs : List ℕ) (g : Goals ps fs gs) where
     pub squared-start : Squared ps fs gs 0 0
     squared-start = record { total = omega arith; small = omega arith }
 
-    pub gap-le : (i : ℕ) → getD gs i 0 + misses h (getD ps i 0) (getD fs i 0) m c ≤ 8
-    gap-le i = omega (arith, g .low i, misses-le h (getD ps i 0) (getD fs i 0) m c)
-
-    pub squared-more : (i s : ℕ) → i < length ps → Squared ps fs gs i s
-        → Squared ps fs gs (i + 1) (s + (getD gs i 0 + misses h (getD ps i 0) (getD fs i 0) m c) * (getD gs i 0 + misses h (getD ps i 0) (getD fs i 0) m c))
-    squared-more i s p w =
-        let a = ap₂ added (drop-at-next gs i 0 (omega (arith, g .places))) (missed-next ps fs i (omega (arith, g .places, g .rooms)) p) in
-        record { total = omega (arith, w .total, ap squares a); small = omega (arith, w .small, mul-le-mul (gap-le i) (gap-le i)) }
-
-    pub squared-end : (i s : ℕ) → length ps ≤ i → Squared ps fs gs i s → s ≡ squares (goalsAfter h m c ps fs gs)
+    pub squared-end : (i s : ℕ) → length ps ≤ i → Squared ps fs gs i s → s ≡ squares (goalsAfter f ps fs gs)
     squared-end i s p w =
         let z : drop i gs ≡ [] = drop-of-length-le gs {i = i} (omega (arith, g .places)) in
-        omega (arith, w .total, ap (λ (l : List ℕ). squares (goalsAfter h m c (drop i ps) (drop i fs) l)) z)
+        omega (arith, w .total, ap (λ (l : List ℕ). squares (goalsAfter f (drop i ps) (drop i fs) l)) z)
+
+    -- an answer is 0 or 1
+    module _ (flag : (p r : ℕ) → f p r ≤ 1) where
+      pub missed-more : (i s : ℕ) → i < length ps → Missed ps fs gs i s → Missed ps fs gs (i + 1) (s + f (getD ps i 0) (getD fs i 0))
+      missed-more i s p w =
+          let n = ap sum (missed-next ps fs i (omega (arith, g .places, g .rooms)) p) in
+          record { total = omega (arith, w .total, n); small = omega (arith, w .small, flag (getD ps i 0) (getD fs i 0)) }
+
+      pub gap-le : (i : ℕ) → getD gs i 0 + f (getD ps i 0) (getD fs i 0) ≤ 8
+      gap-le i = omega (arith, g .low i, flag (getD ps i 0) (getD fs i 0))
+
+      pub squared-more : (i s : ℕ) → i < length ps → Squared ps fs gs i s
+          → Squared ps fs gs (i + 1) (s + (getD gs i 0 + f (getD ps i 0) (getD fs i 0)) * (getD gs i 0 + f (getD ps i 0) (getD fs i 0)))
+      squared-more i s p w =
+          let a = ap₂ added (drop-at-next gs i 0 (omega (arith, g .places))) (missed-next ps fs i (omega (arith, g .places, g .rooms)) p) in
+          record { total = omega (arith, w .total, ap squares a); small = omega (arith, w .small, mul-le-mul (gap-le i) (gap-le i)) }
 
 -- ---- the goals of some rows
 to-go-length : (f f′ : ℕ → ℕ → ℕ) (gs xs ys : List ℕ) → length gs ≡ length xs → length gs ≡ length ys → length (toGo f gs xs) ≡ length (toGo f′ gs ys)
@@ -233,8 +231,8 @@ pub record Alike (xs ys : List ℕ) : Type 0 where
   pub sums : sum xs ≡ sum ys
   pub squares-too : squares xs ≡ squares ys
 
-module _ (h : List ℕ) (ls : List Line) (sizes : ℕ) (q : Xor) (held : Held h ls sizes) (small : Small 8 ls) (one : q .a < length ls) (two : q .b < length ls)
-    (mask : made ls q .mask < 256) where
+-- of which f answers rightly
+module _ (f : ℕ → ℕ → ℕ) (ls : List Line) (q : Xor) (one : q .a < length ls) (two : q .b < length ls) where
   abbrev new : List Line
   new = ls ++ (made ls q ∷ [])
 
@@ -243,35 +241,37 @@ module _ (h : List ℕ) (ls : List Line) (sizes : ℕ) (q : Xor) (held : Held h 
 
   abbrev then-gaps : List ℕ → List ℕ → List ℕ
   then-gaps ts limits =
-      goalsWith ls h (toGo placeOf (now-gaps ts limits) ts) (toGo roomOf (now-gaps ts limits) limits) (toGo lowOf (now-gaps ts limits) ts) q
+      goalsAfter f (toGo placeOf (now-gaps ts limits) ts) (toGo roomOf (now-gaps ts limits) limits) (toGo lowOf (now-gaps ts limits) ts)
 
-  -- one row
-  module _ (t d : ℕ) (ok : SoundRow (row t d)) (byte : t < 256) where
-    pub one-made : away ls (row t d) ≡ 0 → away new (row t d) ≡ 0
-    one-made z = look-made h ls sizes (row t d) q (2 ^ (made ls q .depth)) held small ok byte one two refl mask z
-
-    pub one-goal : (k : ℕ) → away ls (row t d) ≡ suc k → k < sizes → away new (row t d) ≡ k + misses h (placeOf k t) (roomOf k d) (made ls q .mask) (2 ^ (made ls q .depth))
-    one-goal k z p =
-        look-up h ls sizes (row t d) q (2 ^ (made ls q .depth)) held small ok byte one two refl mask k z p
-        ∙ ap (λ (x : ℕ). k + misses h (placeOf k t) x (made ls q .mask) (2 ^ (made ls q .depth))) (sym (cost-is d (costAt d) (ok .shallow) refl))
-
-  pub alike : (ts limits : List ℕ) → length ts ≡ length limits → ((i : ℕ) → i < length ts → SoundRow (row (getD ts i 0) (getD limits i 0))) → ((i : ℕ) → getD ts i 0 < 256)
-      → greatest (now-gaps ts limits) ≤ sizes → Alike (distancesAfter ls (rowsOf ts limits) q) (then-gaps ts limits)
-  alike [] [] e ok byte top = record { sums = refl; squares-too = refl }
-  alike [] (d ∷ limits) e ok byte top = absurd (omega arith)
-  alike (t ∷ ts) [] e ok byte top = absurd (omega arith)
-  alike (t ∷ ts) (d ∷ limits) e ok byte top =
-      go (away ls (row t d)) refl (alike ts limits (omega arith) (λ i p. ok (suc i) (omega arith)) (λ i. byte (suc i)) (omega arith))
+  pub alike : (ts limits : List ℕ) → length ts ≡ length limits → SoundRows (rowsOf ts limits) → Alive ls (rowsOf ts limits) → Tells f ls new (rowsOf ts limits)
+      → Alike (distancesAfter ls (rowsOf ts limits) q) (then-gaps ts limits)
+  alike [] [] e ok al right = record { sums = refl; squares-too = refl }
+  alike [] (d ∷ limits) e ok al right = absurd (omega arith)
+  alike (t ∷ ts) [] e ok al right = absurd (omega arith)
+  alike (t ∷ ts) (d ∷ limits) e ok al right = go (al .0 .0) (al .0 .1) (alike ts limits (omega arith) (ok .1) (al .1) (right .1))
     where
-      go : (g : ℕ) → away ls (row t d) ≡ g → Alike (distancesAfter ls (rowsOf ts limits) q) (then-gaps ts limits)
+      go : (g : ℕ) → reach ls (row t d) ≡ gates g → Alike (distancesAfter ls (rowsOf ts limits) q) (then-gaps ts limits)
           → Alike (away new (row t d) ∷ distancesAfter ls (rowsOf ts limits) q)
-          (goalsWith ls h (toGo placeOf (away ls (row t d) ∷ now-gaps ts limits) (t ∷ ts)) (toGo roomOf (away ls (row t d) ∷ now-gaps ts limits) (d ∷ limits)) (toGo lowOf (away ls (row t d) ∷ now-gaps ts limits) (t ∷ ts)) q)
+          (goalsAfter f (toGo placeOf (away ls (row t d) ∷ now-gaps ts limits) (t ∷ ts)) (toGo roomOf (away ls (row t d) ∷ now-gaps ts limits) (d ∷ limits)) (toGo lowOf (away ls (row t d) ∷ now-gaps ts limits) (t ∷ ts)))
       go zero z r =
-          let a = one-made t d (ok 0 (omega arith)) (byte 0) z in
-          rw z (record { sums = omega (arith, r .sums, a); squares-too = omega (arith, r .squares-too, ap (λ (x : ℕ). x * x) a) })
+          let a = after-made ls q one two (row t d) (ok .0) z in
+          rw (ap count z) (record { sums = omega (arith, r .sums, a); squares-too = omega (arith, r .squares-too, ap (λ (x : ℕ). x * x) a) })
       go (suc k) z r =
-          let a = one-goal t d (ok 0 (omega arith)) (byte 0) k z (omega (arith, top)) in
-          rw z (record { sums = omega (arith, r .sums, a); squares-too = omega (arith, r .squares-too, ap (λ (x : ℕ). x * x) a) })
+          let a = after-gate ls q one two (row t d) (ok .0) k z ∙ ap (λ (x : ℕ). k + x) (sym (right .0 k z)) in
+          rw (ap count z) (record { sums = omega (arith, r .sums, a); squares-too = omega (arith, r .squares-too, ap (λ (x : ℕ). x * x) a) })
+
+  -- and so are the rows' next distances
+  pub next-distances : (ts limits : List ℕ) → length ts ≡ length limits → SoundRows (rowsOf ts limits) → Alive ls (rowsOf ts limits) → Tells f ls new (rowsOf ts limits)
+      → nextGaps f (distances ls (rowsOf ts limits)) ts limits ≡ distancesAfter ls (rowsOf ts limits) q
+  next-distances [] [] e ok al right = refl
+  next-distances [] (d ∷ limits) e ok al right = absurd (omega arith)
+  next-distances (t ∷ ts) [] e ok al right = absurd (omega arith)
+  next-distances (t ∷ ts) (d ∷ limits) e ok al right =
+      ap₂ (λ (x : ℕ) (l : List ℕ). x ∷ l) (go (al .0 .0) (al .0 .1)) (next-distances ts limits (omega arith) (ok .1) (al .1) (right .1))
+    where
+      go : (g : ℕ) → reach ls (row t d) ≡ gates g → nextGap f (away ls (row t d)) t d ≡ away new (row t d)
+      go zero z = rw (ap count z) (sym (after-made ls q one two (row t d) (ok .0) z))
+      go (suc k) z = rw (ap count z) (ap (λ (x : ℕ). k + x) (right .0 k z) ∙ sym (after-gate ls q one two (row t d) (ok .0) k z))
 
 -- the same with equal arrays
 pub aiming-eq : (ts limits gaps : List ℕ) {places places′ rooms rooms′ lows lows′ : List ℕ} {k k′ floor floor′ i : ℕ}
@@ -286,52 +286,37 @@ aiming-eq ts limits gaps p q r s t w =
     }
 
 -- ---- the rows' next distances
-module _ (h : List ℕ) (m c : ℕ) where
-  pub next-made : (g t d : ℕ) → g ≡ 0 → 0 ≡ nextGap h m c g t d
-  next-made g t d e = sym (ap (λ (x : ℕ). nextGap h m c x t d) e)
+module _ (f : ℕ → ℕ → ℕ) where
+  pub next-made : (g t d : ℕ) → g ≡ 0 → 0 ≡ nextGap f g t d
+  next-made g t d e = sym (ap (λ (x : ℕ). nextGap f x t d) e)
 
-  pub next-goal : (g t d room x : ℕ) → (g ≡ 0 → ⊥) → room ≡ costAt d → x ≡ misses h ((g - 1) * 256 + t) room m c → g - 1 + x ≡ nextGap h m c g t d
+  pub next-goal : (g t d room x : ℕ) → (g ≡ 0 → ⊥) → room ≡ costAt d → x ≡ f ((g - 1) * 256 + t) room → g - 1 + x ≡ nextGap f g t d
   next-goal zero t d room x e r q = absurd (e refl)
   next-goal (suc g) t d room x e r q =
       let z : suc g - 1 ≡ g = omega arith in
-      ap₂ _+_ z (q ∙ ap₂ (λ (u v : ℕ). misses h (u * 256 + t) v m c) z r)
+      ap₂ _+_ z (q ∙ ap₂ (λ (u v : ℕ). f (u * 256 + t) v) z r)
 
-  pub next-le : (g t d : ℕ) → nextGap h m c g t d ≤ g
-  next-le zero t d = omega arith
-  next-le (suc g) t d = omega (arith, misses-le h (placeOf g t) (roomOf g d) m c)
-
-  pub next-length : (gs ts ds : List ℕ) → length gs ≡ length ts → length gs ≡ length ds → length (nextGaps h m c gs ts ds) ≡ length gs
-  next-length [] ts ds e f = refl
-  next-length (g ∷ gs) [] ds e f = absurd (omega arith)
-  next-length (g ∷ gs) (t ∷ ts) [] e f = absurd (omega arith)
-  next-length (g ∷ gs) (t ∷ ts) (d ∷ ds) e f = ap suc (next-length gs ts ds (omega arith) (omega arith))
+  pub next-length : (gs ts ds : List ℕ) → length gs ≡ length ts → length gs ≡ length ds → length (nextGaps f gs ts ds) ≡ length gs
+  next-length [] ts ds e e′ = refl
+  next-length (g ∷ gs) [] ds e e′ = absurd (omega arith)
+  next-length (g ∷ gs) (t ∷ ts) [] e e′ = absurd (omega arith)
+  next-length (g ∷ gs) (t ∷ ts) (d ∷ ds) e e′ = ap suc (next-length gs ts ds (omega arith) (omega arith))
 
   pub next-at : (gs ts ds : List ℕ) (i : ℕ) → length gs ≡ length ts → length gs ≡ length ds → i < length gs
-      → getD (nextGaps h m c gs ts ds) i 0 ≡ nextGap h m c (getD gs i 0) (getD ts i 0) (getD ds i 0)
-  next-at [] ts ds i e f p = absurd (omega arith)
-  next-at (g ∷ gs) [] ds i e f p = absurd (omega arith)
-  next-at (g ∷ gs) (t ∷ ts) [] i e f p = absurd (omega arith)
-  next-at (g ∷ gs) (t ∷ ts) (d ∷ ds) zero e f p = refl
-  next-at (g ∷ gs) (t ∷ ts) (d ∷ ds) (suc i) e f p = next-at gs ts ds i (omega arith) (omega arith) (omega arith)
+      → getD (nextGaps f gs ts ds) i 0 ≡ nextGap f (getD gs i 0) (getD ts i 0) (getD ds i 0)
+  next-at [] ts ds i e e′ p = absurd (omega arith)
+  next-at (g ∷ gs) [] ds i e e′ p = absurd (omega arith)
+  next-at (g ∷ gs) (t ∷ ts) [] i e e′ p = absurd (omega arith)
+  next-at (g ∷ gs) (t ∷ ts) (d ∷ ds) zero e e′ p = refl
+  next-at (g ∷ gs) (t ∷ ts) (d ∷ ds) (suc i) e e′ p = next-at gs ts ds i (omega arith) (omega arith) (omega arith)
 
-  pub next-falls : (gs ts ds : List ℕ) → greatest (nextGaps h m c gs ts ds) ≤ greatest gs
-  next-falls [] ts ds = omega arith
-  next-falls (g ∷ gs) [] ds = omega arith
-  next-falls (g ∷ gs) (t ∷ ts) [] = omega arith
-  next-falls (g ∷ gs) (t ∷ ts) (d ∷ ds) = omega (arith, next-le g t d, next-falls gs ts ds)
+  module _ (flag : (p r : ℕ) → f p r ≤ 1) where
+    pub next-le : (g t d : ℕ) → nextGap f g t d ≤ g
+    next-le zero t d = omega arith
+    next-le (suc g) t d = omega (arith, flag (placeOf g t) (roomOf g d))
 
--- they are the distances from the base with the gate's line
-module _ (h : List ℕ) (ls : List Line) (sizes : ℕ) (q : Xor) (held : Held h ls sizes) (small : Small 8 ls) (one : q .a < length ls) (two : q .b < length ls)
-    (mask : made ls q .mask < 256) where
-  pub next-distances : (ts limits : List ℕ) → length ts ≡ length limits → SoundRows (rowsOf ts limits) → ((i : ℕ) → getD ts i 0 < 256)
-      → greatest (distances ls (rowsOf ts limits)) ≤ sizes
-      → nextGaps h (made ls q .mask) (2 ^ (made ls q .depth)) (distances ls (rowsOf ts limits)) ts limits ≡ distancesAfter ls (rowsOf ts limits) q
-  next-distances [] [] e ok byte top = refl
-  next-distances [] (d ∷ limits) e ok byte top = absurd (omega arith)
-  next-distances (t ∷ ts) [] e ok byte top = absurd (omega arith)
-  next-distances (t ∷ ts) (d ∷ limits) e ok byte top =
-      ap₂ (λ (x : ℕ) (l : List ℕ). x ∷ l) (go (away ls (row t d)) refl) (next-distances ts limits (omega arith) (ok .1) (λ i. byte (suc i)) (omega arith))
-    where
-      go : (g : ℕ) → away ls (row t d) ≡ g → nextGap h (made ls q .mask) (2 ^ (made ls q .depth)) (away ls (row t d)) t d ≡ away (ls ++ (made ls q ∷ [])) (row t d)
-      go zero z = rw z (sym (one-made h ls sizes q held small one two mask t d (ok .0) (byte 0) z))
-      go (suc k) z = rw z (sym (one-goal h ls sizes q held small one two mask t d (ok .0) (byte 0) k z (omega (arith, top))))
+    pub next-falls : (gs ts ds : List ℕ) → greatest (nextGaps f gs ts ds) ≤ greatest gs
+    next-falls [] ts ds = omega arith
+    next-falls (g ∷ gs) [] ds = omega arith
+    next-falls (g ∷ gs) (t ∷ ts) [] = omega arith
+    next-falls (g ∷ gs) (t ∷ ts) (d ∷ ds) = omega (arith, next-le g t d, next-falls gs ts ds)

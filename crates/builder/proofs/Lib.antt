@@ -9,9 +9,13 @@ pub mod KeptUp
 pub mod Goals
 pub mod Choice
 pub mod Weighed
+pub mod Passing
 pub mod Steps
 pub mod Refusals
+pub mod MaskSums
 pub mod Begin
 pub mod Promise
 pub mod Values
 pub mod Solved
+pub mod AsLate
+pub mod Written

@@ -8,9 +8,8 @@ use lib.Bits.{bitXor}
 use lib.ListN.{length, getD, take}
 use lib.Seq.{take-suc}
 use Rattle.circuit.specs.Lines.{greatest}
-use Rattle.distance.specs.Base.{Line, line, baseOf, none, xor, made, Small}
-use Rattle.builder.specs.Rule.{Row, row}
-use Rattle.builder.specs.Kept.{rowsOf}
+use Rattle.distance.specs.Base.{Line, line, baseOf, none, xor, made}
+use Rattle.builder.specs.Rule.{Row, row, rowsOf}
 
 -- one element more is taken
 pub take-next : {A : Type 0} (l : List A) (i : ℕ) (d : A) → i < length l → take (i + 1) l ≡ take i l ++ (getD l i d ∷ [])
@@ -39,12 +38,6 @@ lines-snoc [] [] m d e = refl
 lines-snoc [] (y ∷ ys) m d e = absurd (omega arith)
 lines-snoc (x ∷ xs) [] m d e = absurd (omega arith)
 lines-snoc (x ∷ xs) (y ∷ ys) m d e = ap (λ (l : List Line). line x y ∷ l) (lines-snoc xs ys m d (omega arith))
-
--- bytes are below 2 ^ 8
-pub lines-small : (ms ds : List ℕ) → ((i : ℕ) → getD ms i 0 < 256) → Small 8 (baseOf ms ds)
-lines-small [] ds f = tt
-lines-small (m ∷ ms) [] f = tt
-lines-small (m ∷ ms) (d ∷ ds) f = (f 0, lines-small ms ds (λ i. f (suc i)))
 
 -- ---- the rows of a list of masks and a list of limits
 pub rows-length : (ts ds : List ℕ) → length ts ≡ length ds → length (rowsOf ts ds) ≡ length ts

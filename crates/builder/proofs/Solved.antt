@@ -1,4 +1,4 @@
--- The circuit built for a matrix that nothing refuses: its gates, its depth, its outputs; and that 10 is given exactly where there is no program.
+-- The circuit built for a call that nothing refuses: its gates, its outputs' depths and values; and that 10 is given exactly where there is no program.
 use mathlib.Core.Bool.{Bool, true, false, cond}
 use mathlib.Core.List.{List, [], _∷_, _++_, map}
 use mathlib.Core.Path.{_≡_, refl, sym, ap, ap₂, _∙_, subst}
@@ -10,27 +10,26 @@ use lib.ListN.{length, getD, length-append, length-map}
 use Rattle.circuit.specs.declared.Answer.the-variants.{Done, Refused}
 use Rattle.circuit.specs.declared.Refusal.the-variants.{TooShallow}
 use Rattle.circuit.specs.Gate.{rowOn}
-use Rattle.circuit.specs.Lines.{gateAt, depths, depthOf, outputOn, depthStep, truthStep, anyOf, lines, values}
-use Rattle.circuit.specs.Rules.{shaped, gateAnswer, outAnswer, gatesAnswer, outsAnswer, listingAnswer}
-use Rattle.circuit.proofs.LineLaws.{greatest-read}
+use Rattle.circuit.specs.Lines.{gateAt, outputOn, depthStep, truthStep, anyOf, lines, values}
+use Rattle.circuit.specs.Rules.{gateAnswer, outAnswer, gatesAnswer, outsAnswer, listingAnswer}
 use Rattle.circuit.proofs.ParityLaws.{row-none}
 use Rattle.circuit.proofs.RuleLaws.{two-fit}
 use Rattle.circuit.proofs.Lists.{map-at}
-use Rattle.distance.specs.Base.{Line, line, none, Xor, made, run, Reads, Makes, Small, inputs, weight}
+use Rattle.distance.specs.Base.{Line, none, Xor, made, run, Reads, Makes, arriving, weight, load}
 use Rattle.distance.specs.Distance.{gates}
 use Rattle.distance.proofs.Tests.{both-cases}
-use Rattle.distance.proofs.Weight.{small-inputs}
-use Rattle.distance.proofs.Weight as weights
-use Rattle.builder.specs.Rule.{Row, row, reach, count, away, distances, sum, deepest, makes, taken, lowest, lowestFrom, xorGate, greedyCircuit}
-use Rattle.builder.specs.Call.{within, built, badRow, tooHeavy, refusal}
-use Rattle.builder.specs.Matrix.{Computes}
-use Rattle.builder.specs.Kept.{SoundRow, SoundRows, Alive, Fit}
+use Rattle.distance.proofs.Weight.{too-late}
+use Rattle.builder.specs.Rule.{Row, row, rowsOf, reach, count, away, distances, sum, makes, taken, lowest, lowestFrom, xorGate, greedyCircuit}
+use Rattle.builder.specs.Late.{lateBuilt, tooLate, lateRefusal}
+use Rattle.builder.specs.Matrix.{ComputesLate, depthFrom}
+use Rattle.builder.specs.Kept.{SoundRow, SoundRows, Alive, Looking}
+use Rattle.builder.proofs.Lists.{rows-length, rows-at}
 use Rattle.builder.proofs.Reach.{reach-fewest}
-use Rattle.builder.proofs.Ends.{Within, within-snoc, Reached, enough}
-use Rattle.builder.proofs.Refusals.{Accepted, fit, any-some, refused-shallow, refused-not}
-use Rattle.builder.proofs.Begin.{rights, first-alive, first-sound, first-sum, first-little, inputs-length}
-use Rattle.builder.proofs.Promise.{built-shaped, built-gates}
-use Rattle.builder.proofs.Values.{lines-whole, depth-step, input-depths, value-step, input-values}
+use Rattle.builder.proofs.Ends.{Reached, enough}
+use Rattle.builder.proofs.Refusals.{Ahead, Accepted, looking, any-some, refused-last}
+use Rattle.builder.proofs.Begin.{Right, rights, first-alive, first-sound, first-sum, first-little, arriving-length}
+use Rattle.builder.proofs.Promise.{late-shaped, late-gates}
+use Rattle.builder.proofs.Values.{lines-whole, depth-step, arrival-depths, value-step, input-values}
 
 -- ---- a line that makes a row, and the lowest such line
 pub record MadeAt (ls : List Line) (r : Row) (at : ℕ) : Type 0 where
@@ -39,8 +38,8 @@ pub record MadeAt (ls : List Line) (r : Row) (at : ℕ) : Type 0 where
   pub depth : getD ls at none .depth ≤ r .limit
 
 -- a row of distance 0 is made by a line
-pub made-row : (ls : List Line) (r : Row) → Small 8 ls → SoundRow r → reach ls r ≡ gates 0 → (at : ℕ) × MadeAt ls r at
-made-row ls r small ok e = let p = reach-fewest ls r small ok 0 e .program in go (p .gates) (p .count) (p .makes)
+pub made-row : (ls : List Line) (r : Row) → SoundRow r → reach ls r ≡ gates 0 → (at : ℕ) × MadeAt ls r at
+made-row ls r ok e = let p = reach-fewest ls r ok 0 e .program in go (p .gates) (p .count) (p .makes)
   where
     go : (gs : List Xor) → length gs ≡ 0 → Makes ls gs (r .mask) (r .limit) → (at : ℕ) × MadeAt ls r at
     go (g ∷ gs) z m = absurd (omega arith)
@@ -112,161 +111,159 @@ sound-at [] s i h = absurd (omega arith)
 sound-at (r ∷ rs) s zero h = s .0
 sound-at (r ∷ rs) s (suc i) h = sound-at rs (s .1) i (omega arith)
 
-within-row : (D : ℕ) (ts : List ℕ) (i : ℕ) → i < length ts → getD (within D ts) i (row 0 0) ≡ row (getD ts i 0) D
-within-row D [] i h = absurd (omega arith)
-within-row D (t ∷ ts) zero h = refl
-within-row D (t ∷ ts) (suc i) h = within-row D ts i (omega arith)
+-- ---- XOR gates that read lines, and outputs that name lines, pass the rules
+gates-fine : (ls : List Line) (hs : List Xor) → Reads ls hs → gatesAnswer true (length ls) (map xorGate hs) ≡ Done
+unfolding gatesAnswer gateAnswer
+gates-fine ls [] w = refl
+gates-fine ls (g ∷ hs) w =
+    let l : suc (length ls) ≡ length (ls ++ (made ls g ∷ [])) = omega (arith, length-append ls (made ls g ∷ [])) in
+    rw (two-fit (length ls) (xorGate g) (omega arith), lt-ltb (g .a) (length ls) (w .0), lt-ltb (g .b) (length ls) (w .1), l) (gates-fine (ls ++ (made ls g ∷ [])) hs (w .2))
 
-deepest-within : (D : ℕ) (ts : List ℕ) → deepest (within D ts) ≤ D
-deepest-within D [] = omega arith
-deepest-within D (t ∷ ts) = omega (arith, deepest-within D ts)
+outs-fine : (k : ℕ) (os : List ℕ) → ((i : ℕ) → i < length os → getD os i 0 < k) → outsAnswer k os ≡ Done
+unfolding outsAnswer outAnswer
+outs-fine k [] f = refl
+outs-fine k (o ∷ os) f = rw (lt-ltb o k (f 0 (omega arith))) (outs-fine k os (λ i h. f (suc i) (omega arith)))
 
-inputs-shallow : (D n : ℕ) → Within D (inputs n)
-inputs-shallow D zero = tt
-inputs-shallow D (suc n) = within-snoc D (inputs n) (line (2 ^ n) 0) (inputs-shallow D n) (omega arith)
+run-length : (ls : List Line) (hs : List Xor) → length (run ls hs) ≡ length ls + length hs
+run-length ls [] = omega arith
+run-length ls (g ∷ hs) = omega (arith, run-length (ls ++ (made ls g ∷ [])) hs, length-append ls (made ls g ∷ []))
 
-depth-at : (D : ℕ) (ls : List Line) → Within D ls → (i : ℕ) → getD (map (λ (l : Line). l .depth) ls) i 0 ≤ D
-depth-at D [] w i = omega arith
-depth-at D (l ∷ ls) w zero = w .0
-depth-at D (l ∷ ls) w (suc i) = depth-at D ls (w .1) i
+-- ---- a call that nothing refuses
+module _ (n : ℕ) (ar ts ds : List ℕ) (a : Accepted n ar ts ds) where
+  abbrev first : List Line
+  first = arriving n ar
 
--- ---- a matrix that nothing refuses
-module _ (n : ℕ) (ts : List ℕ) (D : ℕ) (a : Accepted n ts D) where
   abbrev rs : List Row
-  rs = within D ts
+  rs = rowsOf ts ds
 
   abbrev gs : List Xor
-  gs = taken (inputs n) rs
+  gs = taken first rs
 
   abbrev all : List Line
-  all = run (inputs n) gs
+  all = run first gs
 
-  fits : Fit n ts
-  fits = fit n ts (a .shape) (a .rows)
+  abbrev at : ℕ → ℕ
+  at i = lowest all (row (getD ts i 0) (getD ds i 0))
 
-  first : sum (distances (inputs n) rs) ≡ sum (map (λ (t : ℕ). weight n t - 1) ts)
-  first = first-sum n D (fits .inputs) (a .depth) ts (rights n ts D a)
+  seen : Looking n ar ts ds
+  seen = looking n ar ts ds (a .ahead)
 
-  sums : sum (map (λ (t : ℕ). weight n t - 1) ts) ≤ 224
-  sums = omega (arith, first-little n D (fits .inputs) (a .depth) ts (rights n ts D a), fits .few)
+  R : (i : ℕ) → i < length ts → Right n ar (getD ts i 0) (getD ds i 0)
+  R = rights n ar ts ds a
 
-  reached : Reached (inputs n) rs gs
+  sum-is : sum (distances first rs) ≡ sum (map (λ (t : ℕ). weight n t - 1) ts)
+  sum-is = first-sum n ar (seen .fit .inputs) ts ds (seen .limits) R
+
+  sum-small : sum (map (λ (t : ℕ). weight n t - 1) ts) ≤ 224
+  sum-small = omega (arith, first-little n ar (seen .fit .inputs) ts (seen .fit .below), seen .fit .few)
+
+  rows-sound : SoundRows rs
+  rows-sound = first-sound n ar (seen .fit .inputs) ts ds (seen .limits) R
+
+  reached : Reached first rs gs
   unfolding taken
   reached =
-      enough 224 (inputs n) rs (small-inputs 8 n (fits .inputs)) (first-sound n D (fits .inputs) (a .depth) ts (rights n ts D a)) (first-alive n D (fits .inputs) (a .depth) ts (rights n ts D a))
-      (omega (arith, first, sums)) (omega (arith, first, sums))
+      enough 224 first rs rows-sound (first-alive n ar (seen .fit .inputs) ts ds (seen .limits) R)
+      (omega (arith, sum-is, sum-small)) (omega (arith, sum-is, sum-small))
 
   -- the gates are few
-  pub few-gates : length (built n ts D .gates) ≤ sum (map (λ (t : ℕ). weight n t - 1) ts)
-  few-gates = omega (arith, built-gates n ts D, reached .few, first)
+  pub few-gates : length (lateBuilt n ar ts ds .gates) ≤ sum (map (λ (t : ℕ). weight n t - 1) ts)
+  few-gates = omega (arith, late-gates n ar ts ds, reached .few, sum-is)
 
-  -- the circuit is not too deep
-  pub shallow : depthOf (built n ts D) ≤ D
-  unfolding built greedyCircuit
-  shallow =
-      let e = ap (λ (l : List ℕ). lines depthStep 0 l (gateAt (greedyCircuit n (inputs n) rs)) (length (map xorGate gs))) (input-depths n)
-      ∙ lines-whole (λ (l : Line). l .depth) depthStep 0 refl depth-step (inputs n) gs in
-      let deep = reached .deep D (deepest-within D ts) (inputs-shallow D n) in
-      greatest-read (depths n (gateAt (built n ts D)) (length (built n ts D .gates))) D (λ i. omega (arith, ap (λ (l : List ℕ). getD l i 0) e, depth-at D all deep i)) (built n ts D .outs)
+  in-rows : (i : ℕ) → i < length ts → i < length rs
+  in-rows i h = omega (arith, rows-length ts ds (seen .limits))
 
-  -- each row has a line
-  pub row-made : (i : ℕ) → i < length ts → MadeAt all (row (getD ts i 0) D) (lowest all (row (getD ts i 0) D))
+  -- each row has a line within its limit
+  row-made : (i : ℕ) → i < length ts → MadeAt all (row (getD ts i 0) (getD ds i 0)) (at i)
   row-made i h =
-      let w = within-row D ts i h in
-      let l = length-map ts (λ (t : ℕ). row t D) in
-      let v = alive-at all rs (reached .alive) i (omega arith) in
-      let z : away all (getD rs i (row 0 0)) ≡ 0 = sym (map-at (away all) rs (row 0 0) i (omega arith)) ∙ sum-none (distances all rs) (reached .done) i in
+      let r = getD rs i (row 0 0) in
+      let v = alive-at all rs (reached .alive) i (in-rows i h) in
+      let z : away all r ≡ 0 = sym (map-at (away all) rs (row 0 0) i (in-rows i h)) ∙ sum-none (distances all rs) (reached .done) i in
       let g : v .0 ≡ 0 = sym (ap count (v .1)) ∙ z in
-      let s = sound-at rs (first-sound n D (fits .inputs) (a .depth) ts (rights n ts D a)) i (omega arith) in
-      let m = made-row all (getD rs i (row 0 0)) (reached .small) s (v .1 ∙ ap gates g) in
-      subst (λ (r : Row). MadeAt all r (lowest all r)) w (lowest-makes all (getD rs i (row 0 0)) (m .0) (m .1))
+      let m = made-row all r (sound-at rs rows-sound i (in-rows i h)) (v .1 ∙ ap gates g) in
+      subst (λ (r : Row). MadeAt all r (lowest all r)) (rows-at ts ds i (seen .limits)) (lowest-makes all r (m .0) (m .1))
 
-  -- and the circuit computes it
-  pub computes-row : (x i : ℕ) → i < length ts → outputOn (built n ts D) x i ≡ rowOn n (getD ts i 0) x
-  unfolding built greedyCircuit
+  -- which its output names
+  out-at : (i : ℕ) → i < length ts → getD (map (lowest all) rs) i 0 ≡ at i
+  out-at i h = map-at (lowest all) rs (row 0 0) i (in-rows i h) ∙ ap (lowest all) (rows-at ts ds i (seen .limits))
+
+  -- so each output is within its row's limit, counted from the arrivals,
+  pub in-limit : (i : ℕ) → i < length ts → depthFrom ar (lateBuilt n ar ts ds) i ≤ getD ds i 0
+  unfolding lateBuilt greedyCircuit
+  in-limit i h =
+      let e = ap (λ (l : List ℕ). lines depthStep 0 l (gateAt (greedyCircuit n first rs)) (length (map xorGate gs))) (arrival-depths n ar (seen .fit .arrivals))
+      ∙ lines-whole (λ (l : Line). l .depth) depthStep 0 refl depth-step first gs in
+      let m = row-made i h in
+      let d : depthFrom ar (greedyCircuit n first rs) i ≡ getD all (at i) none .depth = ap₂ (λ (l : List ℕ) (k : ℕ). getD l k 0) e (out-at i h) ∙ map-at (λ (l : Line). l .depth) all none (at i) (m .within) in
+      omega (arith, d, m .depth)
+
+  -- and the circuit computes the row
+  pub computes-row : (x i : ℕ) → i < length ts → outputOn (lateBuilt n ar ts ds) x i ≡ rowOn n (getD ts i 0) x
+  unfolding lateBuilt greedyCircuit
   computes-row x i h =
       let of : Line → ℕ = λ l. rowOn n (l .mask) x in
-      let r = row (getD ts i 0) D in
-      let e : values x n (gateAt (greedyCircuit n (inputs n) rs)) (length (map xorGate gs)) ≡ map of all =
-      ap (λ (l : List ℕ). lines truthStep 0 l (gateAt (greedyCircuit n (inputs n) rs)) (length (map xorGate gs))) (input-values n n x (omega arith))
-      ∙ lines-whole (λ (l : Line). rowOn n (l .mask) x) truthStep 0 (sym (row-none n x)) (value-step n x) (inputs n) gs in
-      let o : getD (map (lowest all) rs) i 0 ≡ lowest all r =
-      map-at (lowest all) rs (row 0 0) i (omega (arith, length-map ts (λ (t : ℕ). row t D))) ∙ ap (lowest all) (within-row D ts i h) in
-      ap₂ (λ (l : List ℕ) (k : ℕ). getD l k 0) e o
-      ∙ map-at (λ (l : Line). rowOn n (l .mask) x) all none (lowest all r) (row-made i h .within)
+      let e : values x n (gateAt (greedyCircuit n first rs)) (length (map xorGate gs)) ≡ map of all =
+      ap (λ (l : List ℕ). lines truthStep 0 l (gateAt (greedyCircuit n first rs)) (length (map xorGate gs))) (input-values n n ar x (omega arith))
+      ∙ lines-whole (λ (l : Line). rowOn n (l .mask) x) truthStep 0 (sym (row-none n x)) (value-step n x) first gs in
+      ap₂ (λ (l : List ℕ) (k : ℕ). getD l k 0) e (out-at i h)
+      ∙ map-at (λ (l : Line). rowOn n (l .mask) x) all none (at i) (row-made i h .within)
       ∙ ap (λ (m : ℕ). rowOn n m x) (row-made i h .mask)
 
-  pub program-computes : Computes n ts D gs
+  pub program-computes : ComputesLate n ar ts ds gs
   program-computes =
       record {
         reads = reached .reads;
-        makes = λ i h.
-            let m = row-made i h in
-            record { reads = reached .reads; at = lowest all (row (getD ts i 0) D); within = m .within; mask = m .mask; depth = m .depth };
+        makes = λ i h. let m = row-made i h in record { reads = reached .reads; at = at i; within = m .within; mask = m .mask; depth = m .depth };
       }
 
-  -- ---- it is a circuit, with XOR gates only
-  gates-fine : (ls : List Line) (hs : List Xor) → Reads ls hs → gatesAnswer true (length ls) (map xorGate hs) ≡ Done
-  unfolding gatesAnswer gateAnswer
-  gates-fine ls [] w = refl
-  gates-fine ls (g ∷ hs) w =
-      let l : suc (length ls) ≡ length (ls ++ (made ls g ∷ [])) = omega (arith, length-append ls (made ls g ∷ [])) in
-      rw (two-fit (length ls) (xorGate g) (omega arith), lt-ltb (g .a) (length ls) (w .0), lt-ltb (g .b) (length ls) (w .1), l) (gates-fine (ls ++ (made ls g ∷ [])) hs (w .2))
-
-  outs-fine : (k : ℕ) (os : List ℕ) → ((i : ℕ) → i < length os → getD os i 0 < k) → outsAnswer k os ≡ Done
-  unfolding outsAnswer outAnswer
-  outs-fine k [] f = refl
-  outs-fine k (o ∷ os) f = rw (lt-ltb o k (f 0 (omega arith))) (outs-fine k os (λ i h. f (suc i) (omega arith)))
-
-  run-length : (ls : List Line) (hs : List Xor) → length (run ls hs) ≡ length ls + length hs
-  run-length ls [] = omega arith
-  run-length ls (g ∷ hs) = omega (arith, run-length (ls ++ (made ls g ∷ [])) hs, length-append ls (made ls g ∷ []))
-
-  pub sound-circuit : listingAnswer true (built n ts D) ≡ Done
-  unfolding listingAnswer built greedyCircuit
+  -- it is a circuit, with XOR gates only
+  pub sound-circuit : listingAnswer true (lateBuilt n ar ts ds) ≡ Done
+  unfolding listingAnswer lateBuilt greedyCircuit
   sound-circuit =
-      let l = inputs-length n in
+      let l = arriving-length n ar in
       rw (
-        built-shaped n ts D (a .shape),
-        subst (λ (k : ℕ). gatesAnswer true k (map xorGate gs) ≡ Done) l (gates-fine (inputs n) gs (reached .reads)),
+        late-shaped n ar ts ds (seen .limits) (a .ahead .shape),
+        subst (λ (k : ℕ). gatesAnswer true k (map xorGate gs) ≡ Done) l (gates-fine first gs (reached .reads)),
         outs-fine (n + length (map xorGate gs)) (map (lowest all) rs) outs-below,
       )
     where
       outs-below : (i : ℕ) → i < length (map (lowest all) rs) → getD (map (lowest all) rs) i 0 < n + length (map xorGate gs)
       outs-below i h =
-          let k : i < length ts = omega (arith, length-map rs (lowest all), length-map ts (λ (t : ℕ). row t D)) in
-          let e = map-at (lowest all) rs (row 0 0) i (omega (arith, length-map rs (lowest all))) ∙ ap (lowest all) (within-row D ts i k) in
-          omega (arith, e, row-made i k .within, run-length (inputs n) gs, inputs-length n, length-map gs xorGate)
+          let k : i < length ts = omega (arith, length-map rs (lowest all), rows-length ts ds (seen .limits)) in
+          omega (arith, out-at i k, row-made i k .within, run-length first gs, arriving-length n ar, length-map gs xorGate)
 
 -- ---- too shallow
-module _ (n : ℕ) (ts : List ℕ) (D : ℕ) (shape : shaped n (length ts) 0 ≡ true) (rows : anyOf (map (badRow n) ts) ≡ false) (depth : D ≤ 15) where
-  -- a program computes each row, and no program computes a row that is too heavy
-  no-program : anyOf (map (tooHeavy n D) ts) ≡ true → (gs : List Xor) → Computes n ts D gs → ⊥
+module _ (n : ℕ) (ar ts ds : List ℕ) (p : Ahead n ar ts ds) where
+  abbrev late : Bool
+  late = anyOf (map (tooLate n ar) (rowsOf ts ds))
+
+  -- a program makes each row within its limit, and no program makes a row that is too late
+  no-program : late ≡ true → (gs : List Xor) → ComputesLate n ar ts ds gs → ⊥
   no-program e gs c =
-      let s = any-some (tooHeavy n D) ts e in
-      let t = getD ts (s .at) 0 in
-      weights.too-shallow n t D (length gs) (ltb-true (2 ^ D) (weight n t) (s .holds)) (record { gates = gs; count = refl; makes = c .makes (s .at) (s .within) })
+      let l = looking n ar ts ds p .limits in
+      let s = any-some (tooLate n ar) (rowsOf ts ds) (row 0 0) e in
+      let i = s .at in
+      let t = getD ts i 0 in
+      let D = getD ds i 0 in
+      let over = ltb-true (2 ^ D) (load n ar t) (ap (tooLate n ar) (sym (rows-at ts ds i l)) ∙ s .holds) in
+      too-late n ar t D (length gs) over (record { gates = gs; count = refl; makes = c .makes i (omega (arith, s .within, rows-length ts ds l)) })
 
-  pub shallow-none : refusal n ts D ≡ Refused TooShallow → (gs : List Xor) → Computes n ts D gs → ⊥
-  shallow-none e = go (anyOf (map (tooHeavy n D) ts)) refl
+  pub shallow-late : lateRefusal n ar ts ds ≡ Refused TooShallow → late ≡ true
+  shallow-late e = go late refl
     where
-      go : (x : Bool) → anyOf (map (tooHeavy n D) ts) ≡ x → (gs : List Xor) → Computes n ts D gs → ⊥
-      go true h = no-program h
-      go false h = let q = refused-not n ts D shape rows depth h ∙ e in let z : _≡_ {A = ℕ} 0 1 = cc in absurd (omega arith)
-
-  pub none-shallow : ((gs : List Xor) → Computes n ts D gs → ⊥) → refusal n ts D ≡ Refused TooShallow
-  none-shallow p = go (anyOf (map (tooHeavy n D) ts)) refl
-    where
-      go : (x : Bool) → anyOf (map (tooHeavy n D) ts) ≡ x → refusal n ts D ≡ Refused TooShallow
-      go true h = sym (refused-shallow n ts D shape rows depth h)
-      go false h = absurd (p (taken (inputs n) (within D ts)) (program-computes n ts D (record { shape = shape; rows = rows; depth = depth; light = h })))
-
-  pub shallow-heavy : refusal n ts D ≡ Refused TooShallow → anyOf (map (tooHeavy n D) ts) ≡ true
-  shallow-heavy e = go (anyOf (map (tooHeavy n D) ts)) refl
-    where
-      go : (x : Bool) → anyOf (map (tooHeavy n D) ts) ≡ x → anyOf (map (tooHeavy n D) ts) ≡ true
+      go : (x : Bool) → late ≡ x → late ≡ true
       go true h = h
-      go false h = let q = refused-not n ts D shape rows depth h ∙ e in let z : _≡_ {A = ℕ} 0 1 = cc in absurd (omega arith)
+      go false h = let q = sym (refused-last n ar ts ds p false h) ∙ e in let z : _≡_ {A = ℕ} 0 1 = cc in absurd (omega arith)
 
-  pub heavy-shallow : anyOf (map (tooHeavy n D) ts) ≡ true → refusal n ts D ≡ Refused TooShallow
-  heavy-shallow h = sym (refused-shallow n ts D shape rows depth h)
+  pub late-shallow : late ≡ true → lateRefusal n ar ts ds ≡ Refused TooShallow
+  late-shallow h = refused-last n ar ts ds p true h
+
+  pub shallow-none : lateRefusal n ar ts ds ≡ Refused TooShallow → (gs : List Xor) → ComputesLate n ar ts ds gs → ⊥
+  shallow-none e = no-program (shallow-late e)
+
+  pub none-shallow : ((gs : List Xor) → ComputesLate n ar ts ds gs → ⊥) → lateRefusal n ar ts ds ≡ Refused TooShallow
+  none-shallow f = go late refl
+    where
+      go : (x : Bool) → late ≡ x → lateRefusal n ar ts ds ≡ Refused TooShallow
+      go true h = late-shallow h
+      go false h = absurd (f (taken (arriving n ar) (rowsOf ts ds)) (program-computes n ar ts ds (record { ahead = p; light = h })))

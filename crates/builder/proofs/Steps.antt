@@ -6,7 +6,7 @@ use Prim.Native.Nat.{ℕ, zero, suc, _+_, _-_, _^_, _≤_, _<_, min, max}
 use native.Mathlib.Numerals.{add-one}
 use native.Mathlib.Omega.{arith}
 use borrow.Author.Tests.{le-leb, lt-leb, eq-eqb, ne-eqb, eqb-false}
-use lib.Bits.{bitXor, xor-lt}
+use lib.Bits.{bitXor}
 use lib.Dec.{eqb}
 use lib.ListN.{length, getD, take, drop, set, length-set, length-map, length-append}
 use lib.Seq.{length-take-le, take-suc-set, getD-take}
@@ -21,12 +21,13 @@ use Rattle.distance.specs.Table.{costAt, endOf, TakenIn}
 use Rattle.distance.proofs.Entries.{cost-is}
 use Rattle.distance.proofs.Search.{lines-at, lines-end}
 use Rattle.builder.specs.declared.grow.State.{State}
-use Rattle.builder.specs.Rule.{Row, row, away, distances, sum, deepest, makes, lowest, lowestFrom, nextGate, greedy, taken}
-use Rattle.builder.specs.Kept.{SoundRows, Alive, rowsOf, Held, nextGaps, Lowering, base, Choosing, Poised, Tabled, Next, Stepped, SoFar, Grown}
-use Rattle.builder.proofs.Reach.{small-get, small-made, away-lt}
+use Rattle.builder.specs.Rule.{Row, row, rowsOf, away, distances, sum, deepest, makes, lowest, lowestFrom, nextGate, greedy, taken}
+use Rattle.builder.specs.Kept.{SoundRows, Alive, Held, misses, lookUp, Tells, nextGaps, Lowering, base, Choosing, Poised, Tabled, Next, Stepped, SoFar, Grown}
+use Rattle.builder.proofs.Reach.{away-lt}
 use Rattle.builder.proofs.Ends.{Less, next-less, alive-more}
+use Rattle.builder.proofs.Lookup.{misses-le, table-tells}
 use Rattle.builder.proofs.Goals.{next-distances, next-falls}
-use Rattle.builder.proofs.KeptUp.{held-more, cost-le}
+use Rattle.builder.proofs.KeptUp.{small-masks, made-byte, held-fewer, held-more, cost-le}
 use Rattle.builder.proofs.Lists.{lines-length, lines-get, lines-snoc, rows-length, rows-at, greatest-below}
 
 -- ---- the row's lowest line
@@ -71,12 +72,6 @@ pub outs-length : (ms ds ts limits : List ℕ) → length ts ≡ length limits �
 outs-length ms ds ts limits e = length-map (rowsOf ts limits) (lowest (baseOf ms ds)) ∙ rows-length ts limits e
 
 -- ---- what sound rows are
-pub sounds-some : (ts limits : List ℕ) → length ts ≡ length limits → SoundRows (rowsOf ts limits) → (i : ℕ) → i < length ts → getD ts i 0 ≡ 0 → ⊥
-sounds-some [] limits e s i p = absurd (omega arith)
-sounds-some (t ∷ ts) [] e s i p = absurd (omega arith)
-sounds-some (t ∷ ts) (d ∷ limits) e s zero p = s .0 .some
-sounds-some (t ∷ ts) (d ∷ limits) e s (suc i) p = sounds-some ts limits (omega arith) (s .1) i (omega arith)
-
 pub sounds-limited : (ts limits : List ℕ) → length ts ≡ length limits → SoundRows (rowsOf ts limits) → Shallow limits
 sounds-limited [] [] e s i = omega arith
 sounds-limited [] (d ∷ limits) e s i = absurd (omega arith)
@@ -88,10 +83,10 @@ pub sounds-deep : (rs : List Row) → SoundRows rs → deepest rs < 16
 sounds-deep [] s = omega arith
 sounds-deep (r ∷ rs) s = omega (arith, s .0 .shallow, sounds-deep rs (s .1))
 
-distances-small : (ls : List Line) (rs : List Row) → Small 8 ls → SoundRows rs → (i : ℕ) → getD (distances ls rs) i 0 < 8
-distances-small ls [] small s i = omega arith
-distances-small ls (r ∷ rs) small s zero = away-lt ls r small (s .0)
-distances-small ls (r ∷ rs) small s (suc i) = distances-small ls rs small (s .1) i
+distances-small : (ls : List Line) (rs : List Row) (i : ℕ) → getD (distances ls rs) i 0 < 8
+distances-small ls [] i = omega arith
+distances-small ls (r ∷ rs) zero = away-lt ls r
+distances-small ls (r ∷ rs) (suc i) = distances-small ls rs i
 
 shallow-take : (ds : List ℕ) (n : ℕ) → Shallow ds → Shallow (take n ds)
 shallow-take [] zero s k = s k
@@ -127,6 +122,10 @@ module _ (ts limits : List ℕ) (s : State) (p : Poised ts limits s) where
   even : length ms ≡ length ds
   even = masks-long ∙ sym depths-long
 
+  masks-bytes : Small 8 (base s) → (i : ℕ) → getD ms i 0 < 256
+  unfolding base
+  masks-bytes b = small-masks ms ds even b
+
   pub base-length : length (base s) ≡ s .len
   unfolding base
   base-length = lines-length ms ds even ∙ masks-long
@@ -134,7 +133,7 @@ module _ (ts limits : List ℕ) (s : State) (p : Poised ts limits s) where
   gaps-long : length ts ≡ length (distances (base s) rs)
   gaps-long = sym (length-map rs (away (base s)) ∙ rows-length ts limits (p .paired))
 
-  pub gaps-taken : take (length ts) (s .gaps) ≡ distances (base s) rs
+  gaps-taken : take (length ts) (s .gaps) ≡ distances (base s) rs
   gaps-taken = ap (take (length ts)) (p .gaps-are) ∙ padded-take mostOutputs 0 (distances (base s) rs) (length ts) gaps-long
 
   pub gaps-wide : length (s .gaps) ≡ mostOutputs
@@ -148,22 +147,30 @@ module _ (ts limits : List ℕ) (s : State) (p : Poised ts limits s) where
         shallow = shallow-take (s .depths) (s .len) (p .shallow);
         paired = p .paired;
         few = p .few;
-        some = sounds-some ts limits (p .paired) (p .sound);
+        sound = p .sound;
         limited = sounds-limited ts limits (p .paired) (p .sound);
+        alive = p .alive;
         gaps-are = gaps-taken;
-        held = rw gaps-taken t;
+        bytes = t .bytes;
+        masks = masks-bytes (t .held .bytes);
+        cap = t .held .cap;
+        tells = λ i j k l. table-tells h (base s) (greatest (distances (base s) rs)) (xor i j) (t .held) ts limits (p .paired) (p .sound) (t .bytes) (omega arith);
       }
 
   -- the greatest distance is a size that the table has
-  pub top-le : greatest (distances (base s) rs) ≤ 8
-  top-le = greatest-below (distances (base s) rs) 8 (λ i. omega (arith, distances-small (base s) rs (p .small) (p .sound) i))
+  top-le : greatest (distances (base s) rs) ≤ 8
+  top-le = greatest-below (distances (base s) rs) 8 (λ i. omega (arith, distances-small (base s) rs i))
+
+  -- the table of all sizes serves for these rows
+  pub tabled-all : (h : List ℕ) → Held h (base s) 9 → ((i : ℕ) → getD ts i 0 < 256) → Tabled ts limits s h
+  tabled-all h o b = record { held = held-fewer h (base s) 9 (greatest (distances (base s) rs)) (omega (arith, top-le)) o; bytes = b }
 
   -- ---- a gate more
   module _ (h : List ℕ) (t : Tabled ts limits s h) (i j : ℕ) (nx : Next (base s) rs i j) where
     less : Less (base s) rs (xor i j)
     less =
         subst (Less (base s) rs) (nx .is)
-        (next-less (base s) rs (p .small) (p .sound) (p .alive) (p .near) (let e = eqb-false (sum (distances (base s) rs)) 0 (nx .left-to-do) in omega arith))
+        (next-less (base s) rs (p .sound) (p .alive) (p .near) (let e = eqb-false (sum (distances (base s) rs)) 0 (nx .left-to-do) in omega arith))
 
     pub first-in : i < s .len
     first-in = omega (arith, less .one, base-length)
@@ -181,11 +188,11 @@ module _ (ts limits : List ℕ) (s : State) (p : Poised ts limits s) where
     made-is : made (base s) (xor i j) ≡ line m (suc (max (getD (s .depths) i 0) (getD (s .depths) j 0)))
     made-is = ap₂ (λ (x y : Line). line (bitXor (x .mask) (y .mask)) (suc (max (x .depth) (y .depth)))) (at i first-in) (at j second-in)
 
-    pub mask-byte : made (base s) (xor i j) .mask < 256
-    mask-byte = xor-lt 8 (getD (base s) i none .mask) (getD (base s) j none .mask) (small-get 8 (base s) i (p .small)) (small-get 8 (base s) j (p .small))
-
     mask-is : made (base s) (xor i j) .mask ≡ m
     mask-is = ap (λ (x : Line). x .mask) made-is
+
+    pub mask-byte : m < 256
+    mask-byte = subst (λ (x : ℕ). x < 256) mask-is (made-byte (base s) (xor i j) (t .held .bytes))
 
     module _ (w c : ℕ) (ed : w ≡ min 255 (suc (max (getD (s .depths) i 0) (getD (s .depths) j 0)))) (ec : c ≡ costAt w) where
       -- no depth comes near to a byte's end
@@ -201,29 +208,36 @@ module _ (ts limits : List ℕ) (s : State) (p : Poised ts limits s) where
       cost-pow : c ≡ 2 ^ (made (base s) (xor i j) .depth)
       cost-pow = cost-is w c depth-small ec ∙ ap (λ (x : ℕ). 2 ^ x) (sym depth-is)
 
-      pub lowering : Lowering (take (length ts) (s .gaps)) ts limits h c
+      pub lowering : Lowering (take (length ts) (s .gaps)) ts limits h m c
       lowering =
           rw gaps-taken
           (record {
             rows = sym gaps-long;
             limits-too = sym gaps-long ∙ p .paired;
             few = omega (arith, gaps-long, p .few);
-            near = distances-small (base s) rs (p .small) (p .sound);
-            cap = t .cap;
+            near = distances-small (base s) rs;
+            cap = t .held .cap;
             cheap = cost-le w c depth-small ec;
+            bytes = t .bytes;
+            byte = mask-byte;
           })
 
       abbrev new : List Line
       new = base s ++ (made (base s) (xor i j) ∷ [])
 
       -- the distances from the new base
-      module _ (bytes : (k : ℕ) → getD ts k 0 < 256) (gaps′ : List ℕ) (eg : gaps′ ≡ padded mostOutputs 0 (nextGaps h m c (take (length ts) (s .gaps)) ts limits)) where
+      module _ (gaps′ : List ℕ) (eg : gaps′ ≡ padded mostOutputs 0 (nextGaps (misses h m c) (take (length ts) (s .gaps)) ts limits)) where
+        right : Tells (lookUp h (base s) (xor i j)) (base s) new rs
+        right = table-tells h (base s) (greatest (distances (base s) rs)) (xor i j) (t .held) ts limits (p .paired) (p .sound) (t .bytes) (omega arith)
+
+        nexts : nextGaps (lookUp h (base s) (xor i j)) (distances (base s) rs) ts limits ≡ distances new rs
+        nexts = next-distances (lookUp h (base s) (xor i j)) (base s) (xor i j) (less .one) (less .two) ts limits (p .paired) (p .sound) (p .alive) right
+
         gaps-next : gaps′ ≡ padded mostOutputs 0 (distances new rs)
         gaps-next =
             eg
             ∙ ap (padded mostOutputs 0)
-            ((λ u. nextGaps h (sym mask-is u) (cost-pow u) (gaps-taken u) ts limits)
-            ∙ next-distances h (base s) (greatest (distances (base s) rs)) (xor i j) t (p .small) (less .one) (less .two) mask-byte ts limits (p .paired) (p .sound) bytes (omega arith))
+            ((λ u. nextGaps (misses h (sym mask-is u) (cost-pow u)) (gaps-taken u) ts limits) ∙ nexts)
 
         next-long : length ts ≡ length (distances new rs)
         next-long = sym (length-map rs (away new) ∙ rows-length ts limits (p .paired))
@@ -238,8 +252,8 @@ module _ (ts limits : List ℕ) (s : State) (p : Poised ts limits s) where
         top-falls : greatest (distances new rs) ≤ greatest (distances (base s) rs)
         top-falls =
             subst (λ (l : List ℕ). greatest l ≤ greatest (distances (base s) rs))
-            (next-distances h (base s) (greatest (distances (base s) rs)) (xor i j) t (p .small) (less .one) (less .two) mask-byte ts limits (p .paired) (p .sound) bytes (omega arith))
-            (next-falls h (made (base s) (xor i j) .mask) (2 ^ (made (base s) (xor i j) .depth)) (distances (base s) rs) ts limits)
+            nexts
+            (next-falls (lookUp h (base s) (xor i j)) (misses-le h (made (base s) (xor i j) .mask) (2 ^ (made (base s) (xor i j) .depth))) (distances (base s) rs) ts limits)
 
         module _ (top : ℕ) (et : top ≡ greatest (take (length ts) gaps′)) where
           top-is : top ≡ greatest (distances new rs)
@@ -278,10 +292,14 @@ module _ (ts limits : List ℕ) (s : State) (p : Poised ts limits s) where
                 shallow = shallow-set (s .depths) (s .len) w depth-small (p .shallow);
                 gaps-are = gaps-next ∙ ap (λ (l : List Line). padded mostOutputs 0 (distances l rs)) (sym grown);
                 tabled =
-                    subst (λ (l : List Line). Held g l (greatest (distances l rs))) (sym grown)
-                    (subst (λ (l : Line). Held g (base s ++ (l ∷ [])) (greatest (distances (base s ++ (l ∷ [])) rs))) (sym (made-is ∙ ap (line m) (sym ew)))
-                    (subst (Held g (base s ++ (line m w ∷ []))) (top-is ∙ ap (λ (l : Line). greatest (distances (base s ++ (l ∷ [])) rs)) (made-is ∙ ap (line m) (sym ew)))
-                    (held-more h g m w c (greatest (distances (base s) rs)) top (base s) ec (subst (λ (x : ℕ). x < 256) mask-is mask-byte) (omega (arith, top-is, top-falls)) (omega (arith, top-is, top-falls, top-le)) t f)));
+                    record {
+                      bytes = t .bytes;
+                      held =
+                          subst (λ (l : List Line). Held g l (greatest (distances l rs))) (sym grown)
+                          (subst (λ (l : Line). Held g (base s ++ (l ∷ [])) (greatest (distances (base s ++ (l ∷ [])) rs))) (sym (made-is ∙ ap (line m) (sym ew)))
+                          (subst (Held g (base s ++ (line m w ∷ []))) (top-is ∙ ap (λ (l : Line). greatest (distances (base s ++ (l ∷ [])) rs)) (made-is ∙ ap (line m) (sym ew)))
+                          (held-more h g m w c (greatest (distances (base s) rs)) top (base s) ec mask-byte (omega (arith, top-is, top-falls)) (omega (arith, top-is, top-falls, top-le)) (t .held) f)));
+                    };
               }
 
     -- a state that stepped is poised again
@@ -296,8 +314,7 @@ module _ (ts limits : List ℕ) (s : State) (p : Poised ts limits s) where
           paired = p .paired;
           few = p .few;
           sound = p .sound;
-          small = subst (Small 8) l (small-made 8 (base s) (xor i j) (p .small));
-          alive = subst (λ (x : List Line). Alive x rs) l (alive-more (base s) (made (base s) (xor i j)) (p .small) (small-made 8 (base s) (xor i j) (p .small)) rs (p .sound) (p .alive));
+          alive = subst (λ (x : List Line). Alive x rs) l (alive-more (base s) (made (base s) (xor i j)) rs (p .sound) (p .alive));
           near = subst (λ (x : List Line). sum (distances x rs) ≤ 4096) l (omega (arith, less .less, p .near));
           gaps-are = e .gaps-are;
         }

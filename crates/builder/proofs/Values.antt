@@ -4,12 +4,12 @@ use mathlib.Core.Path.{_≡_, refl, sym, ap, ap₂, _∙_}
 use Prim.Native.Nat.{ℕ, zero, suc, _^_, _≤_, max}
 use native.Mathlib.Omega.{arith}
 use lib.Bits.{bitXor}
-use lib.ListN.{length, getD, take, replicate, List·getD-map, length-map}
+use lib.ListN.{length, getD, take, List·getD-map, length-map}
 use lib.Seq.{take-suc, take-length}
 use Rattle.circuit.specs.Gate.{rowOn}
 use Rattle.circuit.specs.Lines.{reads, upto, noGate, depthStep, truthStep, inputsOn, Gate, lines}
 use Rattle.circuit.proofs.ParityLaws.{row-xor, row-input}
-use Rattle.distance.specs.Base.{Line, line, none, Xor, xor, made, run, inputs}
+use Rattle.distance.specs.Base.{Line, line, none, Xor, xor, made, run, arriving}
 use Rattle.builder.specs.Rule.{xorGate}
 
 -- ---- lines
@@ -44,21 +44,23 @@ module _ {A : Type 0} (of : Line → A) (step : ℕ → Gate → List A → A) (
 pub depth-step : (k : ℕ) (g : Xor) (x y : Line) → depthStep k (xorGate g) (x .depth ∷ y .depth ∷ []) ≡ suc (max (x .depth) (y .depth))
 depth-step k g x y = omega arith
 
-pub input-depths : (n : ℕ) → replicate {A = ℕ} n 0 ≡ map (λ (l : Line). l .depth) (inputs n)
-input-depths zero = refl
-input-depths (suc n) = snoc n ∙ ap (λ (l : List ℕ). l ++ (0 ∷ [])) (input-depths n) ∙ sym (map-append (λ (l : Line). l .depth) (inputs n) (line (2 ^ n) 0 ∷ []))
-  where
-    snoc : (n : ℕ) → replicate {A = ℕ} (suc n) 0 ≡ replicate n 0 ++ (0 ∷ [])
-    snoc zero = refl
-    snoc (suc n) = ap (λ (l : List ℕ). 0 ∷ l) (snoc n)
+taken-depths : (n : ℕ) (ar : List ℕ) → n ≤ length ar → map (λ (l : Line). l .depth) (arriving n ar) ≡ take n ar
+taken-depths zero ar h = refl
+taken-depths (suc n) ar h =
+    map-append (λ (l : Line). l .depth) (arriving n ar) (line (2 ^ n) (getD ar n 0) ∷ [])
+    ∙ ap (λ (l : List ℕ). l ++ (getD ar n 0 ∷ [])) (taken-depths n ar (omega arith))
+    ∙ sym (take-suc ar n 0 (omega arith))
+
+pub arrival-depths : (n : ℕ) (ar : List ℕ) → length ar ≡ n → ar ≡ map (λ (l : Line). l .depth) (arriving n ar)
+arrival-depths n ar e = sym (taken-depths n ar (omega arith) ∙ ap (λ (k : ℕ). take k ar) (sym e) ∙ take-length ar)
 
 -- ---- value
-pub input-values : (n k x : ℕ) → k ≤ n → inputsOn k x ≡ map (λ (l : Line). rowOn n (l .mask) x) (inputs k)
+pub input-values : (n k : ℕ) (ar : List ℕ) (x : ℕ) → k ≤ n → inputsOn k x ≡ map (λ (l : Line). rowOn n (l .mask) x) (arriving k ar)
 unfolding upto
-input-values n zero x h = refl
-input-values n (suc k) x h =
-    ap₂ (λ (l : List ℕ) (u : ℕ). l ++ (u ∷ [])) (input-values n k x (omega arith)) (sym (row-input n k x (omega arith)))
-    ∙ sym (map-append (λ (l : Line). rowOn n (l .mask) x) (inputs k) (line (2 ^ k) 0 ∷ []))
+input-values n zero ar x h = refl
+input-values n (suc k) ar x h =
+    ap₂ (λ (l : List ℕ) (u : ℕ). l ++ (u ∷ [])) (input-values n k ar x (omega arith)) (sym (row-input n k x (omega arith)))
+    ∙ sym (map-append (λ (l : Line). rowOn n (l .mask) x) (arriving k ar) (line (2 ^ k) (getD ar k 0) ∷ []))
 
 pub value-step : (n x k : ℕ) (g : Xor) (a b : Line) → truthStep k (xorGate g) (rowOn n (a .mask) x ∷ rowOn n (b .mask) x ∷ []) ≡ rowOn n (bitXor (a .mask) (b .mask)) x
 value-step n x k g a b = sym (row-xor n (a .mask) (b .mask) x)

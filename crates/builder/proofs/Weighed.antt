@@ -1,21 +1,21 @@
 -- Laws of the weighing of pairs by goals: the ways that a turn at a pair goes, and that the goals choose the pair that the rows choose.
 use mathlib.Core.Bool.{Bool, cond}
 use mathlib.Core.List.{List, [], _∷_}
-use mathlib.Core.Path.{_≡_, sym, ap, ap₂, _∙_, subst}
+use mathlib.Core.Path.{_≡_, sym, ap, ap₂, _∙_}
 use Prim.Native.Nat.{ℕ, suc, _*_, _^_, _≤_, _<_, min, max}
 use native.Mathlib.Omega.{arith}
-use lib.Bits.{bitXor, xor-lt}
+use lib.Bits.{bitXor}
 use lib.ListN.{length, getD, take}
 use Rattle.circuit.specs.Lines.{greatest}
 use Rattle.circuit.specs.Sizes.{mostOutputs}
 use Rattle.circuit.proofs.Padding.{padded-take}
 use Rattle.circuit.proofs.Lists.{map-at}
 use Rattle.distance.specs.Base.{Line, baseOf, Xor, xor, made, Shallow}
-use Rattle.builder.specs.Rule.{Row, row, away, distances, sum, squares, deepest, Best, best, start, better, consider, allPairs, distancesAfter, bestPair}
-use Rattle.builder.specs.Kept.{SoundRow, rowsOf, goalsAfter, goalsWith, toGo, placeOf, roomOf, lowOf, Goals, Aimed, Choosing, Weighing}
+use Rattle.builder.specs.Rule.{Row, row, rowsOf, away, distances, sum, squares, deepest, Best, best, start, better, consider, allPairs, distancesAfter, bestPair}
+use Rattle.builder.specs.Kept.{misses, lookUp, goalsAfter, goalsWith, toGo, placeOf, roomOf, lowOf, Goals, Aimed, Choosing, Weighing}
 use Rattle.builder.proofs.Reach.{away-lt}
 use Rattle.builder.proofs.Goals.{Missed, Alike, alike, are-goals}
-use Rattle.builder.proofs.Lists.{made-at, lines-length, lines-small, rows-length, rows-at, rows-limits, greatest-below}
+use Rattle.builder.proofs.Lists.{made-at, lines-length, rows-length, rows-at, rows-limits, greatest-below}
 use Rattle.builder.proofs.Choice.{depth-at, consider-deep, consider-over, consider-done, same-pairs}
 
 -- the goals' distances sum to little
@@ -32,27 +32,27 @@ module _ (ms ds ps fs gs h : List ℕ) (i j w c : ℕ) (l : length ms ≡ length
   m = bitXor (getD ms i 0) (getD ms j 0)
 
   abbrev after : Xor → List ℕ
-  after = goalsWith ls h ps fs gs
+  after = goalsWith (lookUp h ls) ps fs gs
 
   deep : made ls (xor i j) .depth ≡ w
   deep = depth-at ms ds i j w l shallow e
 
-  after-is : after (xor i j) ≡ goalsAfter h m c ps fs gs
+  after-is : after (xor i j) ≡ goalsAfter (misses h m c) ps fs gs
   after-is =
-      ap₂ (λ (x y : ℕ). goalsAfter h x y ps fs gs) (ap (λ (x : Line). x .mask) (made-at ms ds i j l)) (ap (λ (x : ℕ). 2 ^ x) deep ∙ sym ec)
+      ap₂ (λ (x y : ℕ). goalsAfter (misses h x y) ps fs gs) (ap (λ (x : Line). x .mask) (made-at ms ds i j l)) (ap (λ (x : ℕ). 2 ^ x) deep ∙ sym ec)
 
   pub pair-deep : top < w → consider ls after top (xor i j) b ≡ b
   pair-deep p = consider-deep ls after top (xor i j) b (omega (arith, deep))
 
-  pub pair-over : (r s : ℕ) → w ≤ top → Missed h m c ps fs gs r s → b .total < s → consider ls after top (xor i j) b ≡ b
+  pub pair-over : (r s : ℕ) → w ≤ top → Missed (misses h m c) ps fs gs r s → b .total < s → consider ls after top (xor i j) b ≡ b
   pair-over r s p q k = consider-over ls after top (xor i j) b s (omega (arith, deep)) k (omega (arith, q .total, ap sum after-is))
 
-  pub pair-done : (s q : ℕ) (x : Bool) → w ≤ top → sum (goalsAfter h m c ps fs gs) ≡ s → q ≡ squares (goalsAfter h m c ps fs gs) → better (best s q (xor i j)) b ≡ x
+  pub pair-done : (s q : ℕ) (x : Bool) → w ≤ top → sum (goalsAfter (misses h m c) ps fs gs) ≡ s → q ≡ squares (goalsAfter (misses h m c) ps fs gs) → better (best s q (xor i j)) b ≡ x
       → consider ls after top (xor i j) b ≡ cond x (best s q (xor i j)) b
   pair-done s q x p a k v = consider-done ls after top (xor i j) b s q x (omega (arith, deep)) (ap sum after-is ∙ a) (ap squares after-is ∙ sym k) v
 
 -- ---- what a choice is given
-module _ (ms ds ts limits gaps h : List ℕ) (z : Choosing ms ds ts limits gaps h) (bytes : (i : ℕ) → getD ms i 0 < 256) (masks : (i : ℕ) → getD ts i 0 < 256) where
+module _ (ms ds ts limits gaps h : List ℕ) (z : Choosing ms ds ts limits gaps h) where
   abbrev base : List Line
   base = baseOf ms ds
 
@@ -61,9 +61,6 @@ module _ (ms ds ts limits gaps h : List ℕ) (z : Choosing ms ds ts limits gaps 
 
   pub gaps-length : length ts ≡ length gaps
   gaps-length = omega (arith, rows-length ts limits (z .paired), ap length (z .gaps-are), lib.ListN.length-map rows (away base))
-
-  pub sound-at : (i : ℕ) → i < length ts → SoundRow (row (getD ts i 0) (getD limits i 0))
-  sound-at i p = record { some = z .some i p; shallow = z .limited i }
 
   -- the distance at a place
   pub gap-at : (i : ℕ) → i < length ts → getD gaps i 0 ≡ away base (row (getD ts i 0) (getD limits i 0))
@@ -75,7 +72,7 @@ module _ (ms ds ts limits gaps h : List ℕ) (z : Choosing ms ds ts limits gaps 
   pub gap-small : (i : ℕ) → getD gaps i 0 < 8
   gap-small i =
       elim (native.Mathlib.Decide.decLt i (length ts)) [
-        | yes p ↦ omega (arith, gap-at i p, away-lt base (row (getD ts i 0) (getD limits i 0)) (lines-small ms ds bytes) (sound-at i p))
+        | yes p ↦ omega (arith, gap-at i p, away-lt base (row (getD ts i 0) (getD limits i 0)))
         | no p ↦ omega (arith, lib.ListN.List·getD-eq-default gaps 0 {n = i} (omega (arith, gaps-length)))
       ]
 
@@ -89,37 +86,33 @@ module _ (ms ds ts limits gaps h : List ℕ) (z : Choosing ms ds ts limits gaps 
   gs = toGo lowOf gaps ts
 
   pub goals-given : Goals ps fs gs
-  goals-given = are-goals ts limits gaps (z .paired) gaps-length (z .few) gap-small masks
+  goals-given = are-goals ts limits gaps (z .paired) gaps-length (z .few) gap-small (z .bytes)
 
   pub limit-top : greatest limits < 16
   limit-top = let b = greatest-below limits 15 (λ i. omega (arith, z .limited i)) in omega arith
 
   pub weighing-given : (floor : ℕ) → floor ≡ sum gs → Weighing ms ds ps fs gs h (greatest limits) floor
-  weighing-given floor e = record { even = z .even; shallow = z .shallow; goals = goals-given; cap = z .held .cap; deep = limit-top; floor-is = e }
+  weighing-given floor e = record { even = z .even; shallow = z .shallow; goals = goals-given; bytes = z .masks; cap = z .cap; deep = limit-top; floor-is = e }
 
   -- by the goals the same pair is chosen
-  pub best-given : (t q i j : ℕ) → allPairs base (goalsWith base h ps fs gs) (greatest limits) (length ms) 0 start ≡ best t q (xor i j) → bestPair base rows ≡ xor i j
+  pub best-given : (t q i j : ℕ) → allPairs base (goalsWith (lookUp h base) ps fs gs) (greatest limits) (length ms) 0 start ≡ best t q (xor i j) → bestPair base rows ≡ xor i j
   best-given t q i j e =
       let n = lines-length ms ds (z .even) in
-      let small = lines-small ms ds bytes in
       let d : deepest rows ≡ greatest limits = ap greatest (rows-limits ts limits (z .paired)) in
       let g : (x y : ℕ) → x < y → y < length base
-      → (sum (distancesAfter base rows (xor x y)) ≡ sum (goalsWith base h ps fs gs (xor x y))) × (squares (distancesAfter base rows (xor x y)) ≡ squares (goalsWith base h ps fs gs (xor x y))) =
-      λ x y p k. alike-sums x y (alike h base (greatest gaps) (xor x y) (z .held) small (omega arith) k (mask-small x y) ts limits (z .paired) sound-at masks (omega (arith, ap greatest (z .gaps-are)))) in
+      → (sum (distancesAfter base rows (xor x y)) ≡ sum (goalsWith (lookUp h base) ps fs gs (xor x y))) × (squares (distancesAfter base rows (xor x y)) ≡ squares (goalsWith (lookUp h base) ps fs gs (xor x y))) =
+      λ x y p k. alike-sums x y (alike (lookUp h base (xor x y)) base (xor x y) (omega arith) k ts limits (z .paired) (z .sound) (z .alive) (z .tells x y p (omega (arith, k, n)))) in
       ap (λ (b : Best). b .pair)
-      (same-pairs base (distancesAfter base rows) (goalsWith base h ps fs gs) (deepest rows) g (length base) 0 start (omega arith)
-      ∙ ap₂ (λ (u v : ℕ). allPairs base (goalsWith base h ps fs gs) u v 0 start) d n ∙ e)
+      (same-pairs base (distancesAfter base rows) (goalsWith (lookUp h base) ps fs gs) (deepest rows) g (length base) 0 start (omega arith)
+      ∙ ap₂ (λ (u v : ℕ). allPairs base (goalsWith (lookUp h base) ps fs gs) u v 0 start) d n ∙ e)
     where
-      mask-small : (x y : ℕ) → made base (xor x y) .mask < 256
-      mask-small x y = subst (λ (u : Line). u .mask < 256) (sym (made-at ms ds x y (z .even))) (xor-lt 8 (getD ms x 0) (getD ms y 0) (bytes x) (bytes y))
-
-      same : goalsWith base h (toGo placeOf (distances base rows) ts) (toGo roomOf (distances base rows) limits) (toGo lowOf (distances base rows) ts) ≡ goalsWith base h ps fs gs
-      same = ap (λ (l : List ℕ). goalsWith base h (toGo placeOf l ts) (toGo roomOf l limits) (toGo lowOf l ts)) (sym (z .gaps-are))
+      same : goalsWith (lookUp h base) (toGo placeOf (distances base rows) ts) (toGo roomOf (distances base rows) limits) (toGo lowOf (distances base rows) ts) ≡ goalsWith (lookUp h base) ps fs gs
+      same = ap (λ (l : List ℕ). goalsWith (lookUp h base) (toGo placeOf l ts) (toGo roomOf l limits) (toGo lowOf l ts)) (sym (z .gaps-are))
 
       alike-sums : (x y : ℕ)
           → Alike (distancesAfter base rows (xor x y))
-          (goalsWith base h (toGo placeOf (distances base rows) ts) (toGo roomOf (distances base rows) limits) (toGo lowOf (distances base rows) ts) (xor x y))
-          → (sum (distancesAfter base rows (xor x y)) ≡ sum (goalsWith base h ps fs gs (xor x y))) × (squares (distancesAfter base rows (xor x y)) ≡ squares (goalsWith base h ps fs gs (xor x y)))
+          (goalsWith (lookUp h base) (toGo placeOf (distances base rows) ts) (toGo roomOf (distances base rows) limits) (toGo lowOf (distances base rows) ts) (xor x y))
+          → (sum (distancesAfter base rows (xor x y)) ≡ sum (goalsWith (lookUp h base) ps fs gs (xor x y))) × (squares (distancesAfter base rows (xor x y)) ≡ squares (goalsWith (lookUp h base) ps fs gs (xor x y)))
       alike-sums x y a = (a .sums ∙ ap (λ (f : Xor → List ℕ). sum (f (xor x y))) same, a .squares-too ∙ ap (λ (f : Xor → List ℕ). squares (f (xor x y))) same)
 
   -- the same of the goals as they stand in three arrays
@@ -139,7 +132,7 @@ module _ (ms ds ts limits gaps h : List ℕ) (z : Choosing ms ds ts limits gaps 
     pub weighing-taken : (top : ℕ) → top ≡ greatest limits → Weighing ms ds (take k P) (take k R) (take k L) h top floor
     weighing-taken top e = rw (places-taken, rooms-taken, lows-taken, e) (weighing-given floor (a .floor-is))
 
-    pub best-taken : (top t q i j : ℕ) → top ≡ greatest limits → allPairs base (goalsWith base h (take k P) (take k R) (take k L)) top (length ms) 0 start ≡ best t q (xor i j) → bestPair base rows ≡ xor i j
+    pub best-taken : (top t q i j : ℕ) → top ≡ greatest limits → allPairs base (goalsWith (lookUp h base) (take k P) (take k R) (take k L)) top (length ms) 0 start ≡ best t q (xor i j) → bestPair base rows ≡ xor i j
     best-taken top t q i j e w =
         best-given t q i j
-        ((λ u. allPairs base (goalsWith base h (sym places-taken u) (sym rooms-taken u) (sym lows-taken u)) (sym e u) (length ms) 0 start) ∙ w)
+        ((λ u. allPairs base (goalsWith (lookUp h base) (sym places-taken u) (sym rooms-taken u) (sym lows-taken u)) (sym e u) (length ms) 0 start) ∙ w)

@@ -6,19 +6,19 @@ use Prim.Native.Nat.{ℕ, zero, suc, _+_, _-_, _*_, _^_, _≤_, _<_}
 use lib.Bits.{bitXor}
 use lib.Dec.{leb, eqb}
 use lib.ListN.{length, getD, take, set, replicate}
-use Rattle.circuit.specs.Sizes.{mostOutputs, mostGates, mostLines}
+use Rattle.circuit.specs.declared.Answer.the-variants.{Done, Refused}
+use Rattle.circuit.specs.declared.Refusal.{Refusal}
+use Rattle.circuit.specs.Sizes.{mostInputs, mostOutputs, mostGates, mostLines}
 use Rattle.circuit.specs.Lines.{padded, greatest}
-use Rattle.distance.specs.Base.{Line, baseOf, Small, Shallow, Xor, xor, made, run, weight}
-use Rattle.distance.specs.Distance.{gates}
+use Rattle.stored.specs.declared.Writing.{Writing}
+use Rattle.stored.specs.declared.Writing.the-variants.{NotWritten}
+use Rattle.stored.specs.Writing.{Wrote}
+use Rattle.distance.specs.Base.{Line, baseOf, Small, Shallow, Xor, xor, made, run, weight, load}
+use Rattle.distance.specs.Distance.{gates, can}
 use Rattle.distance.specs.Table.{far, costAt, Holds}
+use Rattle.builder.specs.declared.Planned.{Planned}
 use Rattle.builder.specs.declared.grow.State.{State}
-use Rattle.builder.specs.Rule.{Row, row, reach, distances, sum, nextGate, greedy, taken}
-
--- the rows of a list of masks and a list of limits
-abbrev pub rowsOf : List ℕ → List ℕ → List Row
-rowsOf [] ds = []
-rowsOf (t ∷ ts) [] = []
-rowsOf (t ∷ ts) (d ∷ ds) = row t d ∷ rowsOf ts ds
+use Rattle.builder.specs.Rule.{Row, rowsOf, reach, distances, sum, nextGate, greedy, taken}
 
 -- a row that the rule is applied to: its mask is not 0, and its limit at most 15
 pub record SoundRow (r : Row) : Type 0 where
@@ -41,23 +41,29 @@ Alive ls (r ∷ rs) = ((g : ℕ) × (reach ls r ≡ gates g)) × Alive ls rs
 abbrev pub Capped : List ℕ → Type 0
 Capped h = (j : ℕ) → getD h j 0 ≤ far
 
--- the table of a base, as far as it is kept up: the sizes below `sizes`, which are those that some row still asks
+-- the table of a base, as far as it is kept up: the sizes below `sizes`, which are those that some row still asks. It has an entry for each byte
 pub record Held (h : List ℕ) (ls : List Line) (sizes : ℕ) : Type 0 where
   pub holds : Holds h ls sizes
+  pub bytes : Small 8 ls
   pub cap : Capped h
 
 -- ---- the goals: what is still to be made, in three lists. A row with mask t at distance g + 1 has the place g * 256 + t, the room 2 ^ limit and the low g
 
--- 0 where a line with mask m and cost c brings a goal one gate nearer, and 1 where it stays where it is: the goal comes nearer where the line
--- and g lines of the base make its row, which is one look-up in the table
-unfoldable pub misses : List ℕ → ℕ → ℕ → ℕ → ℕ → ℕ
-misses h place room m c = cond (leb (getD h (bitXor place m) 0 + c) room) 0 1
+-- of a row at distance g + 1: 0 where one line more brings it one gate nearer, and 1 where it stays where it is. It comes nearer where the base with
+-- that line, `new`, has a set of g + 1 lines that makes it
+unfoldable pub stays : List Line → ℕ → Row → ℕ
+stays new g r = cond (can (suc g) (r .mask) (2 ^ (r .limit)) new) 0 1
 
--- the same of each goal
-abbrev pub missed : List ℕ → ℕ → ℕ → List ℕ → List ℕ → List ℕ
-missed h m c [] fs = []
-missed h m c (p ∷ ps) [] = []
-missed h m c (p ∷ ps) (f ∷ fs) = misses h p f m c ∷ missed h m c ps fs
+-- an answer to that by the table of the base, for a line with mask m and cost c and a goal by its place and room: the line and g lines of the base
+-- make the row, which is one look-up
+unfoldable pub misses : List ℕ → ℕ → ℕ → ℕ → ℕ → ℕ
+misses h m c place room = cond (leb (getD h (bitXor place m) 0 + c) room) 0 1
+
+-- the answers of f to each goal
+abbrev pub missed : (ℕ → ℕ → ℕ) → List ℕ → List ℕ → List ℕ
+missed f [] fs = []
+missed f (p ∷ ps) [] = []
+missed f (p ∷ ps) (r ∷ fs) = f p r ∷ missed f ps fs
 
 -- two lists added entry by entry
 abbrev pub added : List ℕ → List ℕ → List ℕ
@@ -65,9 +71,9 @@ added [] ys = []
 added (x ∷ xs) [] = []
 added (x ∷ xs) (y ∷ ys) = (x + y) ∷ added xs ys
 
--- the goals' distances after such a line
-abbrev pub goalsAfter : List ℕ → ℕ → ℕ → List ℕ → List ℕ → List ℕ → List ℕ
-goalsAfter h m c ps fs gs = added gs (missed h m c ps fs)
+-- the goals' distances after a line of which f answers
+abbrev pub goalsAfter : (ℕ → ℕ → ℕ) → List ℕ → List ℕ → List ℕ → List ℕ
+goalsAfter f ps fs gs = added gs (missed f ps fs)
 
 -- of the rows that are not made, what f makes of the distance less one and of the row's entry in xs
 abbrev pub toGo : (ℕ → ℕ → ℕ) → List ℕ → List ℕ → List ℕ
@@ -88,6 +94,11 @@ roomOf g limit = costAt limit
 abbrev pub lowOf : ℕ → ℕ → ℕ
 lowOf g t = g
 
+-- f answers rightly of each of these rows, where `new` is the base ls with one line more
+abbrev pub Tells : (ℕ → ℕ → ℕ) → List Line → List Line → List Row → Type 0
+Tells f ls new [] = Unit {0}
+Tells f ls new (r ∷ rs) = ((g : ℕ) → reach ls r ≡ gates (suc g) → f (placeOf g (r .mask)) (roomOf g (r .limit)) ≡ stays new g r) × Tells f ls new rs
+
 -- three lists that are goals
 pub record Goals (ps fs gs : List ℕ) : Type 0 where
   pub places : length ps ≡ length gs
@@ -106,41 +117,50 @@ pub record Aimed (ts limits gaps places rooms lows : List ℕ) (k floor : ℕ) :
 
 -- ---- the choice of a gate
 
--- what the choice of a gate is given: the base in two lists, the rows in two more, their distances, and the table
+-- the table's answers after gate g
+abbrev pub lookUp : List ℕ → List Line → Xor → ℕ → ℕ → ℕ
+lookUp h ls g = misses h (made ls g .mask) (2 ^ (made ls g .depth))
+
+-- what the choice of a gate is given: the base in two lists, the rows in two more, their distances, and answers that are right of every pair
 pub record Choosing (ms ds ts limits gaps h : List ℕ) : Type 0 where
   pub even : length ms ≡ length ds
   pub shallow : Shallow ds
   pub paired : length ts ≡ length limits
   pub few : length ts ≤ mostOutputs
-  pub some : (i : ℕ) → i < length ts → getD ts i 0 ≡ 0 → ⊥
+  pub sound : SoundRows (rowsOf ts limits)
   pub limited : Shallow limits
+  pub alive : Alive (baseOf ms ds) (rowsOf ts limits)
   pub gaps-are : gaps ≡ distances (baseOf ms ds) (rowsOf ts limits)
-  pub held : Held h (baseOf ms ds) (greatest gaps)
+  pub bytes : (i : ℕ) → getD ts i 0 < 256
+  pub masks : (i : ℕ) → getD ms i 0 < 256
+  pub cap : Capped h
+  pub tells : (i j : ℕ) → i < j → j < length ms → Tells (lookUp h (baseOf ms ds) (xor i j)) (baseOf ms ds) (baseOf ms ds ++ (made (baseOf ms ds) (xor i j) ∷ [])) (rowsOf ts limits)
 
 -- what the weighing of the pairs is given: the base, the goals, the greatest depth, and the sum of the lows
 pub record Weighing (ms ds ps fs gs h : List ℕ) (top floor : ℕ) : Type 0 where
   pub even : length ms ≡ length ds
   pub shallow : Shallow ds
   pub goals : Goals ps fs gs
+  pub bytes : (i : ℕ) → getD ms i 0 < 256
   pub cap : Capped h
   pub deep : top < 16
   pub floor-is : floor ≡ sum gs
 
--- the goals' distances after gate g
-abbrev pub goalsWith : List Line → List ℕ → List ℕ → List ℕ → List ℕ → Xor → List ℕ
-goalsWith ls h ps fs gs g = goalsAfter h (made ls g .mask) (2 ^ (made ls g .depth)) ps fs gs
+-- the goals' distances after gate g, of which `f g` answers
+abbrev pub goalsWith : (Xor → ℕ → ℕ → ℕ) → List ℕ → List ℕ → List ℕ → Xor → List ℕ
+goalsWith f ps fs gs g = goalsAfter (f g) ps fs gs
 
--- a row's distance after a line with mask m and cost c, from its distance before, its mask and its limit
-abbrev pub nextGap : List ℕ → ℕ → ℕ → ℕ → ℕ → ℕ → ℕ
-nextGap h m c zero t d = 0
-nextGap h m c (suc g) t d = g + misses h (placeOf g t) (roomOf g d) m c
+-- a row's distance after a line of which f answers, from its distance before, its mask and its limit
+abbrev pub nextGap : (ℕ → ℕ → ℕ) → ℕ → ℕ → ℕ → ℕ
+nextGap f zero t d = 0
+nextGap f (suc g) t d = g + f (placeOf g t) (roomOf g d)
 
 -- the same of each row
-abbrev pub nextGaps : List ℕ → ℕ → ℕ → List ℕ → List ℕ → List ℕ → List ℕ
-nextGaps h m c [] ts ds = []
-nextGaps h m c (g ∷ gs) [] ds = []
-nextGaps h m c (g ∷ gs) (t ∷ ts) [] = []
-nextGaps h m c (g ∷ gs) (t ∷ ts) (d ∷ ds) = nextGap h m c g t d ∷ nextGaps h m c gs ts ds
+abbrev pub nextGaps : (ℕ → ℕ → ℕ) → List ℕ → List ℕ → List ℕ → List ℕ
+nextGaps f [] ts ds = []
+nextGaps f (g ∷ gs) [] ds = []
+nextGaps f (g ∷ gs) (t ∷ ts) [] = []
+nextGaps f (g ∷ gs) (t ∷ ts) (d ∷ ds) = nextGap f g t d ∷ nextGaps f gs ts ds
 
 -- the choice: whether every row is made, and if not, the next gate
 pub record Chosen (ls : List Line) (rs : List Row) (over : Bool) (i j : ℕ) : Type 0 where
@@ -149,14 +169,16 @@ pub record Chosen (ls : List Line) (rs : List Row) (over : Bool) (i j : ℕ) : T
 
 -- ---- the steps
 
--- what the new distances are made from: the old ones, the rows, and the table
-pub record Lowering (gaps ts limits h : List ℕ) (c : ℕ) : Type 0 where
+-- what the new distances are made from: the old ones, the rows, the table, and the new line's mask and cost
+pub record Lowering (gaps ts limits h : List ℕ) (m c : ℕ) : Type 0 where
   pub rows : length gaps ≡ length ts
   pub limits-too : length gaps ≡ length limits
   pub few : length gaps ≤ mostOutputs
   pub near : (i : ℕ) → getD gaps i 0 < 8
   pub cap : Capped h
   pub cheap : c ≤ 32768
+  pub bytes : (i : ℕ) → getD ts i 0 < 256
+  pub byte : m < 256
 
 -- the base that a state holds: the first `len` entries of its two arrays
 unfoldable pub base : State → List Line
@@ -171,14 +193,14 @@ pub record Poised (ts limits : List ℕ) (s : State) : Type 0 where
   pub paired : length ts ≡ length limits
   pub few : length ts ≤ mostOutputs
   pub sound : SoundRows (rowsOf ts limits)
-  pub small : Small 8 (base s)
   pub alive : Alive (base s) (rowsOf ts limits)
   pub near : sum (distances (base s) (rowsOf ts limits)) ≤ 4096
   pub gaps-are : s .gaps ≡ padded mostOutputs 0 (distances (base s) (rowsOf ts limits))
 
--- the table of its base, for the distances that are left
-abbrev pub Tabled : List ℕ → List ℕ → State → List ℕ → Type 0
-Tabled ts limits s h = Held h (base s) (greatest (distances (base s) (rowsOf ts limits)))
+-- the table of its base, for the distances that are left, and rows that it has entries for
+pub record Tabled (ts limits : List ℕ) (s : State) (h : List ℕ) : Type 0 where
+  pub held : Held h (base s) (greatest (distances (base s) (rowsOf ts limits)))
+  pub bytes : (i : ℕ) → getD ts i 0 < 256
 
 -- the gate (i, j) is the next one
 pub record Next (ls : List Line) (rs : List Row) (i j : ℕ) : Type 0 where
@@ -219,19 +241,48 @@ pub record Grown (first : List Line) (rs : List Row) (s : State) : Type 0 where
   pub counted : s .count ≡ length (taken first rs)
   pub within : s .len < mostLines
 
--- rows that no refusal ahead of 9 stops
-pub record Fit (n : ℕ) (ts : List ℕ) : Type 0 where
-  pub inputs : n ≤ 8
+-- ---- the front
+
+-- a row's weight, and its load
+pub record Summed (n : ℕ) (ar : List ℕ) (t w l : ℕ) : Type 0 where
+  pub weight-is : w ≡ weight n t
+  pub load-is : l ≡ load n ar t
+
+-- a mask's weight and its load in one number: the load is below 2 ^ 20
+abbrev pub maskSum : ℕ → List ℕ → ℕ → ℕ
+maskSum n ar t = weight n t * 1048576 + load n ar t
+
+-- those of the masks below 2 ^ n, in an array for 256
+pub record MaskSums (n : ℕ) (ar sums : List ℕ) : Type 0 where
+  pub long : length sums ≡ 256
+  pub at : (t : ℕ) → t < 2 ^ n → getD sums t 0 ≡ maskSum n ar t
+
+-- inputs and rows that no refusal ahead of 10 stops
+pub record Fit (n : ℕ) (ar ts : List ℕ) : Type 0 where
+  pub inputs : n ≤ mostInputs
   pub few : length ts ≤ mostOutputs
+  pub arrivals : length ar ≡ n
+  pub early : Shallow ar
   pub some : (i : ℕ) → i < length ts → getD ts i 0 ≡ 0 → ⊥
   pub below : (i : ℕ) → getD ts i 0 < 2 ^ n
 
+-- the same with the limits
+pub record Looking (n : ℕ) (ar ts ds : List ℕ) : Type 0 where
+  pub fit : Fit n ar ts
+  pub limits : length ts ≡ length ds
+  pub shallow : Shallow ds
+
 -- the state before the first step
-pub record Begun (n : ℕ) (ts : List ℕ) (s : State) : Type 0 where
+pub record Begun (n : ℕ) (ar ts : List ℕ) (s : State) : Type 0 where
   pub masks-are : s .masks ≡ 1 ∷ 2 ∷ 4 ∷ 8 ∷ 16 ∷ 32 ∷ 64 ∷ 128 ∷ replicate mostGates 0
-  pub depths-are : s .depths ≡ replicate mostLines 0
+  pub depths-are : s .depths ≡ padded mostLines 0 ar
   pub long : s .len ≡ n
   pub gaps-are : s .gaps ≡ padded mostOutputs 0 (map (λ (t : ℕ). weight n t - 1) ts)
   pub lefts : s .left ≡ replicate mostGates 0
   pub rights : s .right ≡ replicate mostGates 0
   pub none : s .count ≡ 0
+
+-- what is written of a plan: the stored bytes of its circuit, or why there are none
+pub record PlanWritten (p : Planned) (room : List ℕ) (r : Writing) (out : List ℕ) : Type 0 where
+  pub refused : (w : Refusal) → p .answer ≡ Refused w → (r ≡ NotWritten w) × (out ≡ room)
+  pub done : p .answer ≡ Done → Wrote (p .circuit) room r out

@@ -17,6 +17,12 @@ pub record Row : Type 0 where
 abbrev pub row : ℕ → ℕ → Row
 row t d = record { mask = t; limit = d }
 
+-- the rows of a list of masks and a list of limits
+abbrev pub rowsOf : List ℕ → List ℕ → List Row
+rowsOf [] ds = []
+rowsOf (t ∷ ts) [] = []
+rowsOf (t ∷ ts) (d ∷ ds) = row t d ∷ rowsOf ts ds
+
 -- a row's distance from a base, within the row's own limit (masks are bytes: a set of more than 8 lines need not be looked at)
 unfoldable pub reach : List Line → Row → Gap
 reach ls r = distance 8 ls (r .mask) (r .limit)

@@ -4,8 +4,8 @@ ghost use Prim.Native.Nat.{ℕ, _≤_, _<_};
 ghost use lib.ListN.{length, getD};
 ghost use Rattle.circuit.specs.Sizes.{mostOutputs};
 ghost use Rattle.distance.specs.Base.{baseOf, Shallow, xor};
-ghost use Rattle.builder.specs.Rule.{row, squares, best, better, start, firstPair, allPairs, bestPair};
-ghost use Rattle.builder.specs.Kept.{rowsOf, Capped, misses as missesOf, goalsAfter, goalsWith, Goals as AreGoals, Weighing, Aimed, Choosing, Chosen};
+ghost use Rattle.builder.specs.Rule.{row, rowsOf, squares, best, better, start, firstPair, allPairs, bestPair};
+ghost use Rattle.builder.specs.Kept.{Capped, misses as missesOf, lookUp, goalsAfter, goalsWith, Goals as AreGoals, Weighing, Aimed, Choosing, Chosen};
 use circuit::OUTPUTS;
 use circuit::depth::deeper;
 use circuit::depth::greatest_of;
@@ -42,9 +42,9 @@ pub(crate) struct Turn {
 
 // 0 where a line with mask m and cost c brings a goal one gate nearer, and 1 where the goal stays where it is. A line made
 // from two of the base takes off one gate at most, so that this look-up tells the new distance.
-pub(crate) fn misses(h: &[u32; 2304], place: usize, room: u32, m: u8, c: u32) -> u32
-    requires { ⌜ place < 2048 ⌝ ∗ ⌜ Capped (now h) ⌝ ∗ ⌜ c ≤ 32768 ⌝ }
-    ensures { λ r. ⌜ r ≡ missesOf (now (h .entry)) place room m c ⌝ }
+pub(crate) fn misses(h: &[u32; 2304], place: usize, room: u32, m: u32, c: u32) -> u32
+    requires { ⌜ place < 2048 ⌝ ∗ ⌜ Capped (now h) ⌝ ∗ ⌜ c ≤ 32768 ⌝ ∗ ⌜ m < 256 ⌝ }
+    ensures { λ r. ⌜ r ≡ missesOf (now (h .entry)) m c place room ⌝ }
 {
     if h[place ^ (m as usize)] + c <= room {
         0
@@ -54,9 +54,9 @@ pub(crate) fn misses(h: &[u32; 2304], place: usize, room: u32, m: u8, c: u32) ->
 }
 
 // The sum of the squares of the distances after a line.
-fn square_sum(places: &[usize], rooms: &[u32], lows: &[u32], h: &[u32; 2304], m: u8, c: u32) -> u32
-    requires { ⌜ AreGoals (now places) (now rooms) (now lows) ⌝ ∗ ⌜ Capped (now h) ⌝ ∗ ⌜ c ≤ 32768 ⌝ }
-    ensures { λ r. ⌜ r ≡ squares (goalsAfter (now (h .entry)) m c (now (places .entry)) (now (rooms .entry)) (now (lows .entry))) ⌝ }
+fn square_sum(places: &[usize], rooms: &[u32], lows: &[u32], h: &[u32; 2304], m: u32, c: u32) -> u32
+    requires { ⌜ AreGoals (now places) (now rooms) (now lows) ⌝ ∗ ⌜ Capped (now h) ⌝ ∗ ⌜ c ≤ 32768 ⌝ ∗ ⌜ m < 256 ⌝ }
+    ensures { λ r. ⌜ r ≡ squares (goalsAfter (missesOf (now (h .entry)) m c) (now (places .entry)) (now (rooms .entry)) (now (lows .entry))) ⌝ }
 {
     let mut sum: u32 = 0;
     for i in 0..places.len() {
@@ -81,9 +81,11 @@ fn improves(sum: u32, sq: u32, total: u32, square: u32) -> bool
 
 // The pair with depth at most `top` that gives the smallest sum of distances, then the largest sum of their squares, then
 // the first. `floor` is what the sum is where every goal comes nearer; each goal that stays adds one, and the pair is
-// dropped once its sum passes the best so far.
+// dropped once its sum passes the best so far. A pair is passed over where an earlier one made the same mask at the same or
+// a lesser depth: it brings nearer only goals that the earlier one does, so that its sum is no smaller, and where the sums
+// are the same, so are the distances and their squares.
 fn weigh(
-    masks: &[u8],
+    masks: &[u32],
     depths: &[u8],
     places: &[usize],
     rooms: &[u32],
@@ -93,19 +95,23 @@ fn weigh(
     floor: u32,
 ) -> Pick
     requires { ⌜ Weighing (now masks) (now depths) (now places) (now rooms) (now lows) (now h) top floor ⌝ }
-    ensures { λ r. ⌜ allPairs (baseOf (now (masks .entry)) (now (depths .entry))) (goalsWith (baseOf (now (masks .entry)) (now (depths .entry))) (now (h .entry)) (now (places .entry)) (now (rooms .entry)) (now (lows .entry))) top (length (now (masks .entry))) 0 start ≡ best (r .total) (r .square) (xor (r .a) (r .b)) ⌝ }
+    ensures { λ r. ⌜ allPairs (baseOf (now (masks .entry)) (now (depths .entry))) (goalsWith (lookUp (now (h .entry)) (baseOf (now (masks .entry)) (now (depths .entry)))) (now (places .entry)) (now (rooms .entry)) (now (lows .entry))) top (length (now (masks .entry))) 0 start ≡ best (r .total) (r .square) (xor (r .a) (r .b)) ⌝ }
 {
     let mut total: u32 = 4096;
     let mut square: u32 = 0;
     let mut a: usize = 0;
     let mut b: usize = 0;
+    // The least depth at which each mask was weighed; at first one more than any pair may have, so that one test passes over
+    // both what is too deep and what was weighed.
+    let mut seen = [top + 1; 256];
     for i in 0..masks.len() {
         'pairs: for j in i + 1..masks.len() {
             let depth = deeper(depths[i], depths[j]);
-            if top < depth {
+            let m = masks[i] ^ masks[j];
+            if seen[m as usize] <= depth {
                 continue 'pairs;
             }
-            let m = masks[i] ^ masks[j];
+            seen[m as usize] = depth;
             let c = cost(depth);
             let mut sum = floor;
             for r in 0..places.len() {
@@ -132,8 +138,8 @@ fn weigh(
 }
 
 // The goals: the rows whose distance is not 0.
-fn aim(rows: &[u8], limits: &[u8], gaps: &[u8]) -> Goals
-    requires { ⌜ length (now rows) ≡ length (now limits) ⌝ ∗ ⌜ length (now rows) ≡ length (now gaps) ⌝ ∗ ⌜ length (now rows) ≤ mostOutputs ⌝ ∗ ⌜ ((i : ℕ) → getD (now gaps) i 0 < 8) ⌝ }
+fn aim(rows: &[u32], limits: &[u8], gaps: &[u8]) -> Goals
+    requires { ⌜ length (now rows) ≡ length (now limits) ⌝ ∗ ⌜ length (now rows) ≡ length (now gaps) ⌝ ∗ ⌜ length (now rows) ≤ mostOutputs ⌝ ∗ ⌜ ((i : ℕ) → getD (now gaps) i 0 < 8) ⌝ ∗ ⌜ ((i : ℕ) → getD (now rows) i 0 < 256) ⌝ }
     ensures { λ r. ⌜ Aimed (now (rows .entry)) (now (limits .entry)) (now (gaps .entry)) (r .places) (r .rooms) (r .lows) (r .count) (r .floor) ⌝ }
 {
     let mut places = [0usize; OUTPUTS];
@@ -163,9 +169,9 @@ fn aim(rows: &[u8], limits: &[u8], gaps: &[u8]) -> Goals
 
 // The best pair.
 fn best_pair(
-    masks: &[u8],
+    masks: &[u32],
     depths: &[u8],
-    rows: &[u8],
+    rows: &[u32],
     limits: &[u8],
     gaps: &[u8],
     h: &[u32; 2304],
@@ -196,7 +202,7 @@ fn best_pair(
 }
 
 // The first pair of lines that makes a row within its limit; lines 0 and 0 where there is none.
-fn first_pair(masks: &[u8], depths: &[u8], t: u8, limit: u8) -> Pair
+fn first_pair(masks: &[u32], depths: &[u8], t: u32, limit: u8) -> Pair
     requires { ⌜ length (now masks) ≡ length (now depths) ⌝ ∗ ⌜ Shallow (now depths) ⌝ }
     ensures { λ r. ⌜ firstPair (baseOf (now (masks .entry)) (now (depths .entry))) (row t limit) (length (now (masks .entry))) 0 ≡ xor (r .a) (r .b) ⌝ }
 {
@@ -214,9 +220,9 @@ fn first_pair(masks: &[u8], depths: &[u8], t: u8, limit: u8) -> Pair
 
 // What the next step is to do.
 pub(crate) fn next_gate(
-    masks: &[u8],
+    masks: &[u32],
     depths: &[u8],
-    rows: &[u8],
+    rows: &[u32],
     limits: &[u8],
     gaps: &[u8],
     h: &[u32; 2304],

@@ -7,13 +7,13 @@ use lib.ListN.{length, take, set}
 use Rattle.circuit.specs.Lines.{padded}
 use Rattle.circuit.specs.Sizes.{mostOutputs}
 use Rattle.circuit.proofs.Padding.{padded-none, padded-next, padded-all}
-use Rattle.builder.specs.Kept.{nextGaps}
+use Rattle.builder.specs.Kept.{misses as missesOf, nextGaps}
 use Rattle.builder.proofs.Goals.{next-length, next-at}
 use Rattle.builder.proofs.grow.lowered.Statement.{statement}
 use Rattle.builder.proofs.grow.lowered.Tie as tie
 
 abbrev Inv-loop : tie.InvT-loop
-Inv-loop gaps rows limits h m c next₀ i₀ i-end next i = (i ≤ length gaps) × (next ≡ padded mostOutputs 0 (take i (nextGaps h m c gaps rows limits)))
+Inv-loop gaps rows limits h m c next₀ i₀ i-end next i = (i ≤ length gaps) × (next ≡ padded mostOutputs 0 (take i (nextGaps (missesOf h m c) gaps rows limits)))
 
 abbrev μ-loop : tie.MeasureT-loop
 μ-loop gaps rows limits h m c next₀ i₀ i-end next i = i-end - i
@@ -24,6 +24,9 @@ loop-holds c = (search needs, sym (padded-none mostOutputs 0))
 shared-slice-read-lower : tie.Need-shared-slice-read-lower Inv-loop μ-loop
 shared-slice-read-lower c = search needs
 
+mul-lower : tie.Need-mul-lower Inv-loop μ-loop
+mul-lower c = search needs
+
 shared-slice-read-lower-2 : tie.Need-shared-slice-read-lower-2 Inv-loop μ-loop
 shared-slice-read-lower-2 c = omega (arith, c .before .before .loop-test .taken, c .before .before .before .before .before .before .before .pre .rows)
 
@@ -31,7 +34,7 @@ shared-slice-read-lower-3 : tie.Need-shared-slice-read-lower-3 Inv-loop μ-loop
 shared-slice-read-lower-3 c = omega (arith, c .before .before .before .loop-test .taken, c .before .before .before .before .before .before .before .before .pre .limits-too)
 
 lower-requires : tie.Need-lower-requires Inv-loop μ-loop
-lower-requires c κs = (omega (arith, c .before .before .before .before .before .before .before .before .pre .near (c .before .before .before .before .loop .i)), (c .before .before .before .before .before .before .before .before .pre .cap, c .before .before .before .before .before .before .before .before .pre .cheap))
+lower-requires c κs = (omega (arith, c .before .before .before .before .before .before .before .before .pre .near (c .before .before .before .before .loop .i)), (c .before .before .before .before .before .before .before .before .pre .cap, (c .before .before .before .before .before .before .before .before .pre .cheap, (c .before .before .before .before .before .before .before .before .pre .bytes (c .before .before .before .before .loop .i), c .before .before .before .before .before .before .before .before .pre .byte))))
 
 array-write-next : tie.Need-array-write-next Inv-loop μ-loop
 array-write-next c = omega (arith, c .before .before .before .before .loop-test .taken, c .before .before .before .before .before .before .before .before .before .pre .few)
@@ -46,15 +49,15 @@ loop-again : tie.Need-loop-again Inv-loop μ-loop
 loop-again c =
     let a = c .before .before .before .before .before .before .before .before .before .args in
     let i = c .before .before .before .before .before .loop .i in
-    let zs = nextGaps (a .h .now) (a .m) (a .c) (a .gaps .now) (a .rows .now) (a .limits .now) in
-    let n = next-length (a .h .now) (a .m) (a .c) (a .gaps .now) (a .rows .now) (a .limits .now) (c .before .before .before .before .before .before .before .before .before .pre .rows) (c .before .before .before .before .before .before .before .before .before .pre .limits-too) in
-    (search needs, ap (λ (l : mathlib.Core.List.List ℕ). set l i (c .lower .result)) (c .before .before .before .before .before .loop .inv .1) ∙ padded-next mostOutputs 0 zs i (c .lower .result) (omega (arith, n, c .before .before .before .before .loop-test .taken)) (omega (arith, n, c .before .before .before .before .before .before .before .before .before .pre .few)) (c .lower .ensures ∙ sym (next-at (a .h .now) (a .m) (a .c) (a .gaps .now) (a .rows .now) (a .limits .now) i (c .before .before .before .before .before .before .before .before .before .pre .rows) (c .before .before .before .before .before .before .before .before .before .pre .limits-too) (c .before .before .before .before .loop-test .taken))))
+    let zs = nextGaps (missesOf (a .h .now) (a .m) (a .c)) (a .gaps .now) (a .rows .now) (a .limits .now) in
+    let n = next-length (missesOf (a .h .now) (a .m) (a .c)) (a .gaps .now) (a .rows .now) (a .limits .now) (c .before .before .before .before .before .before .before .before .before .pre .rows) (c .before .before .before .before .before .before .before .before .before .pre .limits-too) in
+    (search needs, ap (λ (l : mathlib.Core.List.List ℕ). set l i (c .lower .result)) (c .before .before .before .before .before .loop .inv .1) ∙ padded-next mostOutputs 0 zs i (c .lower .result) (omega (arith, n, c .before .before .before .before .loop-test .taken)) (omega (arith, n, c .before .before .before .before .before .before .before .before .before .pre .few)) (c .lower .ensures ∙ sym (next-at (missesOf (a .h .now) (a .m) (a .c)) (a .gaps .now) (a .rows .now) (a .limits .now) i (c .before .before .before .before .before .before .before .before .before .pre .rows) (c .before .before .before .before .before .before .before .before .before .pre .limits-too) (c .before .before .before .before .loop-test .taken))))
 
 returns : tie.Need-returns Inv-loop μ-loop
 returns c =
     let a = c .before .before .before .before .before .args in
-    let zs = nextGaps (a .h .now) (a .m) (a .c) (a .gaps .now) (a .rows .now) (a .limits .now) in
-    c .before .loop .inv .1 ∙ padded-all mostOutputs 0 zs (c .before .loop .i) (omega (arith, c .before .loop .inv .0, c .loop-test .left, next-length (a .h .now) (a .m) (a .c) (a .gaps .now) (a .rows .now) (a .limits .now) (c .before .before .before .before .before .pre .rows) (c .before .before .before .before .before .pre .limits-too)))
+    let zs = nextGaps (missesOf (a .h .now) (a .m) (a .c)) (a .gaps .now) (a .rows .now) (a .limits .now) in
+    c .before .loop .inv .1 ∙ padded-all mostOutputs 0 zs (c .before .loop .i) (omega (arith, c .before .loop .inv .0, c .loop-test .left, next-length (missesOf (a .h .now) (a .m) (a .c)) (a .gaps .now) (a .rows .now) (a .limits .now) (c .before .before .before .before .before .pre .rows) (c .before .before .before .before .before .pre .limits-too)))
 
 pub lowered-spec : {M : Type 1} → statement M
 lowered-spec =
@@ -64,6 +67,7 @@ lowered-spec =
     μ-loop
     loop-holds
     shared-slice-read-lower
+    mul-lower
     shared-slice-read-lower-2
     shared-slice-read-lower-3
     lower-requires

@@ -27,7 +27,7 @@ shared-slice-read-if1 : tie.Need-shared-slice-read-if1 Inv-loop μ-loop
 shared-slice-read-if1 c = search needs
 
 returns : tie.Need-returns Inv-loop μ-loop
-returns c = sym (c .before .before .before .loop .inv ∙ any-hit (badRow (c .before .before .before .before .before .before .args .n)) (c .before .before .before .before .before .before .args .rows .now) (c .before .before .before .loop .i) (c .before .before .loop-test .taken) (bad-none (c .before .before .before .before .before .before .args .n) _ (c .if1 .taken)))
+returns c = sym (c .before .before .before .loop .inv ∙ any-hit (badRow (c .before .before .before .before .before .before .args .n)) (c .before .before .before .before .before .before .args .rows .now) 0 (c .before .before .before .loop .i) (c .before .before .loop-test .taken) (bad-none (c .before .before .before .before .before .before .args .n) _ (c .if1 .taken)))
 
 shared-slice-read-if2 : tie.Need-shared-slice-read-if2 Inv-loop μ-loop
 shared-slice-read-if2 c = search needs
@@ -36,7 +36,7 @@ cast-if2 : tie.Need-cast-if2 Inv-loop μ-loop
 cast-if2 c = omega (arith, c .shared-slice-known3 .given (c .before .before .before .before .loop .i) .fits)
 
 returns-2 : tie.Need-returns-2 Inv-loop μ-loop
-returns-2 c = sym (c .before .before .before .before .before .loop .inv ∙ any-hit (badRow (c .before .before .before .before .before .before .before .before .args .n)) (c .before .before .before .before .before .before .before .before .args .rows .now) (c .before .before .before .before .before .loop .i) (c .before .before .before .before .loop-test .taken) (bad-high (c .before .before .before .before .before .before .before .before .args .n) _ (c .before .before .if1 .left) (omega (arith, c .before .before .before .before .before .before .power .ensures, c .if2 .taken))))
+returns-2 c = sym (c .before .before .before .before .before .loop .inv ∙ any-hit (badRow (c .before .before .before .before .before .before .before .before .args .n)) (c .before .before .before .before .before .before .before .before .args .rows .now) 0 (c .before .before .before .before .before .loop .i) (c .before .before .before .before .loop-test .taken) (bad-high (c .before .before .before .before .before .before .before .before .args .n) _ (c .before .before .if1 .left) (omega (arith, c .before .before .before .before .before .before .power .ensures, c .if2 .taken))))
 
 add-i : tie.Need-add-i Inv-loop μ-loop
 add-i c = search needs
@@ -45,10 +45,10 @@ loop-less : tie.Need-loop-less Inv-loop μ-loop
 loop-less c = search needs
 
 loop-again : tie.Need-loop-again Inv-loop μ-loop
-loop-again c = c .before .before .before .before .before .loop .inv ∙ any-miss (badRow (c .before .before .before .before .before .before .before .before .args .n)) (c .before .before .before .before .before .before .before .before .args .rows .now) (c .before .before .before .before .before .loop .i) (c .before .before .before .before .loop-test .taken) (bad-not (c .before .before .before .before .before .before .before .before .args .n) _ (c .before .before .if1 .left) (omega (arith, c .before .before .before .before .before .before .power .ensures, c .if2 .left)))
+loop-again c = c .before .before .before .before .before .loop .inv ∙ any-miss (badRow (c .before .before .before .before .before .before .before .before .args .n)) (c .before .before .before .before .before .before .before .before .args .rows .now) 0 (c .before .before .before .before .before .loop .i) (c .before .before .before .before .loop-test .taken) (bad-not (c .before .before .before .before .before .before .before .before .args .n) _ (c .before .before .if1 .left) (omega (arith, c .before .before .before .before .before .before .power .ensures, c .if2 .left)))
 
 returns-3 : tie.Need-returns-3 Inv-loop μ-loop
-returns-3 c = sym (c .before .loop .inv ∙ any-end (badRow (c .before .before .before .before .args .n)) (c .before .before .before .before .args .rows .now) (c .before .loop .i) (c .loop-test .left))
+returns-3 c = sym (c .before .loop .inv ∙ any-end (badRow (c .before .before .before .before .args .n)) (c .before .before .before .before .args .rows .now) 0 (c .before .loop .i) (c .loop-test .left))
 
 pub any-bad-spec : {M : Type 1} → statement M
 any-bad-spec =

@@ -24,10 +24,13 @@ sub-low : tie.Need-sub-low Inv-loop μ-loop
 sub-low c = search needs
 
 cast-places : tie.Need-cast-places Inv-loop μ-loop
-cast-places c = omega (arith, c .before .before .before .before .before .before .before .pre .1 .1 .1 (c .before .before .before .loop .i))
+cast-places c = omega (arith, c .before .before .before .before .before .before .before .pre .1 .1 .1 .0 (c .before .before .before .loop .i))
 
 mul-places : tie.Need-mul-places Inv-loop μ-loop
-mul-places c = omega (arith, c .before .before .before .before .before .before .before .pre .1 .1 .1 (c .before .before .before .loop .i))
+mul-places c = omega (arith, c .before .before .before .before .before .before .before .pre .1 .1 .1 .0 (c .before .before .before .loop .i))
+
+mul-places-2 : tie.Need-mul-places-2 Inv-loop μ-loop
+mul-places-2 c = search needs
 
 shared-slice-read-places : tie.Need-shared-slice-read-places Inv-loop μ-loop
 shared-slice-read-places c = search needs
@@ -36,10 +39,10 @@ cast-places-2 : tie.Need-cast-places-2 Inv-loop μ-loop
 cast-places-2 c = omega (arith, c .shared-slice-known5 .given (c .before .before .before .before .loop .i) .fits)
 
 add-places : tie.Need-add-places Inv-loop μ-loop
-add-places c = omega (arith, c .before .before .before .before .before .before .before .before .pre .1 .1 .1 (c .before .before .before .before .loop .i), c .shared-slice-known5 .given (c .before .before .before .before .loop .i) .fits)
+add-places c = omega (arith, c .before .before .before .before .before .before .before .before .pre .1 .1 .1 .0 (c .before .before .before .before .loop .i), c .shared-slice-known5 .given (c .before .before .before .before .loop .i) .fits)
 
-mul-places-2 : tie.Need-mul-places-2 Inv-loop μ-loop
-mul-places-2 c = omega (arith, c .before .before .before .before .loop .inv .count, c .before .before .before .loop-test .taken, c .before .before .before .before .before .before .before .before .pre .1 .1 .0)
+mul-places-3 : tie.Need-mul-places-3 Inv-loop μ-loop
+mul-places-3 c = omega (arith, c .before .before .before .before .loop .inv .count, c .before .before .before .loop-test .taken, c .before .before .before .before .before .before .before .before .pre .1 .1 .0)
 
 array-write-places : tie.Need-array-write-places Inv-loop μ-loop
 array-write-places c = omega (arith, c .before .before .before .before .loop .inv .count, c .before .before .before .loop-test .taken, c .before .before .before .before .before .before .before .before .pre .1 .1 .0)
@@ -57,7 +60,7 @@ array-write-rooms : tie.Need-array-write-rooms Inv-loop μ-loop
 array-write-rooms c = omega (arith, c .before .before .before .before .before .before .loop .inv .count, c .before .before .before .before .before .loop-test .taken, c .before .before .before .before .before .before .before .before .before .before .pre .1 .1 .0)
 
 cast-lows : tie.Need-cast-lows Inv-loop μ-loop
-cast-lows c = omega (arith, c .before .before .before .before .before .before .before .before .before .before .pre .1 .1 .1 (c .before .before .before .before .before .before .loop .i))
+cast-lows c = omega (arith, c .before .before .before .before .before .before .before .before .before .before .pre .1 .1 .1 .0 (c .before .before .before .before .before .before .loop .i))
 
 mul-lows : tie.Need-mul-lows Inv-loop μ-loop
 mul-lows c = omega (arith, c .before .before .before .before .before .before .loop .inv .count, c .before .before .before .before .before .loop-test .taken, c .before .before .before .before .before .before .before .before .before .before .pre .1 .1 .0)
@@ -66,10 +69,10 @@ array-write-lows : tie.Need-array-write-lows Inv-loop μ-loop
 array-write-lows c = omega (arith, c .before .before .before .before .before .before .loop .inv .count, c .before .before .before .before .before .loop-test .taken, c .before .before .before .before .before .before .before .before .before .before .pre .1 .1 .0)
 
 cast-floor : tie.Need-cast-floor Inv-loop μ-loop
-cast-floor c = omega (arith, c .before .before .before .before .before .before .before .before .before .before .pre .1 .1 .1 (c .before .before .before .before .before .before .loop .i))
+cast-floor c = omega (arith, c .before .before .before .before .before .before .before .before .before .before .pre .1 .1 .1 .0 (c .before .before .before .before .before .before .loop .i))
 
 add-floor : tie.Need-add-floor Inv-loop μ-loop
-add-floor c = omega (arith, c .before .before .before .before .before .before .loop .inv .small, c .before .before .before .before .before .loop-test .taken, c .before .before .before .before .before .before .before .before .before .before .pre .1 .1 .0, c .before .before .before .before .before .before .before .before .before .before .pre .1 .1 .1 (c .before .before .before .before .before .before .loop .i))
+add-floor c = omega (arith, c .before .before .before .before .before .before .loop .inv .small, c .before .before .before .before .before .loop-test .taken, c .before .before .before .before .before .before .before .before .before .before .pre .1 .1 .0, c .before .before .before .before .before .before .before .before .before .before .pre .1 .1 .1 .0 (c .before .before .before .before .before .before .loop .i))
 
 add-count : tie.Need-add-count Inv-loop μ-loop
 add-count c = omega (arith, c .before .before .before .before .before .before .loop .inv .count, c .before .before .before .before .before .loop-test .taken, c .before .before .before .before .before .before .before .before .before .before .pre .1 .1 .0)
@@ -88,7 +91,7 @@ loop-again c =
     ⊎-elim
     (λ w. let g = getD (a .gaps .now) (l .i) 0 - 1 in
     aiming-eq (a .rows .now) (a .limits .now) (a .gaps .now) (w .4) (w .5) (w .6) (w .7) (w .8)
-    (aiming-goal (a .rows .now) (a .limits .now) (a .gaps .now) (l .places) (l .rooms) (l .lows) (l .count) (l .floor) (l .i) (z .0) (z .1 .0) (z .1 .1 .0) (c .before .before .loop-test .taken) (l .inv) g (w .3 .result) (omega (arith, w .0 .taken)) (omega (arith, z .1 .1 .1 (l .i))) (w .3 .ensures)))
+    (aiming-goal (a .rows .now) (a .limits .now) (a .gaps .now) (l .places) (l .rooms) (l .lows) (l .count) (l .floor) (l .i) (z .0) (z .1 .0) (z .1 .1 .0) (c .before .before .loop-test .taken) (l .inv) g (w .3 .result) (omega (arith, w .0 .taken)) (omega (arith, z .1 .1 .1 .0 (l .i))) (w .3 .ensures)))
     (λ w.
     aiming-eq (a .rows .now) (a .limits .now) (a .gaps .now) (w .1) (w .2) (w .3) (w .4) (w .5)
     (aiming-made (a .rows .now) (a .limits .now) (a .gaps .now) (l .places) (l .rooms) (l .lows) (l .count) (l .floor) (l .i) (z .0) (z .1 .0) (z .1 .1 .0) (c .before .before .loop-test .taken) (l .inv) (w .0 .left))) (c .if1 .came)
@@ -107,10 +110,11 @@ aim-spec =
     sub-low
     cast-places
     mul-places
+    mul-places-2
     shared-slice-read-places
     cast-places-2
     add-places
-    mul-places-2
+    mul-places-3
     array-write-places
     shared-slice-read-cost
     cost-requires

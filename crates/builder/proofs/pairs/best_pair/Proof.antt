@@ -13,7 +13,7 @@ use Rattle.builder.proofs.pairs.best_pair.Tie as tie
 aim-requires : tie.Need-aim-requires
 aim-requires c κs =
     let a = c .before .before .before .before .before .args in
-    (c .before .before .before .before .before .pre .paired, (gaps-length (a .masks .now) (a .depths .now) (a .rows .now) (a .limits .now) (a .gaps .now) (a .h .now) (c .before .before .before .before .before .pre) (λ i. c .before .before .before .before .shared-slice-known .given i .fits) (λ i. c .before .before .shared-slice-known3 .given i .fits), (c .before .before .before .before .before .pre .few, gap-small (a .masks .now) (a .depths .now) (a .rows .now) (a .limits .now) (a .gaps .now) (a .h .now) (c .before .before .before .before .before .pre) (λ i. c .before .before .before .before .shared-slice-known .given i .fits) (λ i. c .before .before .shared-slice-known3 .given i .fits))))
+    (c .before .before .before .before .before .pre .paired, (gaps-length (a .masks .now) (a .depths .now) (a .rows .now) (a .limits .now) (a .gaps .now) (a .h .now) (c .before .before .before .before .before .pre), (c .before .before .before .before .before .pre .few, (gap-small (a .masks .now) (a .depths .now) (a .rows .now) (a .limits .now) (a .gaps .now) (a .h .now) (c .before .before .before .before .before .pre), c .before .before .before .before .before .pre .bytes))))
 
 greatest-of-requires : tie.Need-greatest-of-requires
 greatest-of-requires c κs = search needs
@@ -22,7 +22,7 @@ greatest-of-requires c κs = search needs
 few : (c : tie.After-aim) → c .aim .result .count ≤ mostOutputs
 few c =
     let a = c .before .before .before .before .before .before .args in
-    few-goals (a .masks .now) (a .depths .now) (a .rows .now) (a .limits .now) (a .gaps .now) (a .h .now) (c .before .before .before .before .before .before .pre) (λ i. c .before .before .before .before .before .shared-slice-known .given i .fits) (λ i. c .before .before .before .shared-slice-known3 .given i .fits) (c .aim .result .places) (c .aim .result .rooms) (c .aim .result .lows) (c .aim .result .count) (c .aim .result .floor) (c .aim .ensures)
+    few-goals (a .masks .now) (a .depths .now) (a .rows .now) (a .limits .now) (a .gaps .now) (a .h .now) (c .before .before .before .before .before .before .pre) (c .aim .result .places) (c .aim .result .rooms) (c .aim .result .lows) (c .aim .result .count) (c .aim .result .floor) (c .aim .ensures)
 
 array-share-prefix-places : tie.Need-array-share-prefix-places
 array-share-prefix-places c = let e : length (c .before .before .before .before .aim .result .places) ≡ mostOutputs = search needs in omega (arith, few (c .before .before .before .before))
@@ -46,14 +46,14 @@ weigh-requires : tie.Need-weigh-requires
 weigh-requires c κs =
     let a = c .before .before .before .before .before .before .before .before .before .before .before .before .before .args in
     let g = c .before .before .before .before .before .before .before .aim .result in
-    weighing-taken (a .masks .now) (a .depths .now) (a .rows .now) (a .limits .now) (a .gaps .now) (a .h .now) (c .before .before .before .before .before .before .before .before .before .before .before .before .before .pre) (λ i. c .before .before .before .before .before .before .before .before .before .before .before .before .shared-slice-known .given i .fits) (λ i. c .before .before .before .before .before .before .before .before .before .before .shared-slice-known3 .given i .fits) (g .places) (g .rooms) (g .lows) (g .count) (g .floor) (c .before .before .before .before .before .before .before .aim .ensures) (c .before .before .before .greatest-of .result) (c .before .before .before .greatest-of .ensures)
+    weighing-taken (a .masks .now) (a .depths .now) (a .rows .now) (a .limits .now) (a .gaps .now) (a .h .now) (c .before .before .before .before .before .before .before .before .before .before .before .before .before .pre) (g .places) (g .rooms) (g .lows) (g .count) (g .floor) (c .before .before .before .before .before .before .before .aim .ensures) (c .before .before .before .greatest-of .result) (c .before .before .before .greatest-of .ensures)
 
 returns : tie.Need-returns
 returns c =
     let a = c .before .before .before .before .before .before .before .before .before .before .before .before .before .before .args in
     let g = c .before .before .before .before .before .before .before .before .aim .result in
     let p = c .weigh .result in
-    best-taken (a .masks .now) (a .depths .now) (a .rows .now) (a .limits .now) (a .gaps .now) (a .h .now) (c .before .before .before .before .before .before .before .before .before .before .before .before .before .before .pre) (λ i. c .before .before .before .before .before .before .before .before .before .before .before .before .before .shared-slice-known .given i .fits) (λ i. c .before .before .before .before .before .before .before .before .before .before .before .shared-slice-known3 .given i .fits) (g .places) (g .rooms) (g .lows) (g .count) (g .floor) (c .before .before .before .before .before .before .before .before .aim .ensures) (c .before .before .before .before .greatest-of .result) (p .total) (p .square) (p .a) (p .b) (c .before .before .before .before .greatest-of .ensures) (c .weigh .ensures)
+    best-taken (a .masks .now) (a .depths .now) (a .rows .now) (a .limits .now) (a .gaps .now) (a .h .now) (c .before .before .before .before .before .before .before .before .before .before .before .before .before .before .pre) (g .places) (g .rooms) (g .lows) (g .count) (g .floor) (c .before .before .before .before .before .before .before .before .aim .ensures) (c .before .before .before .before .greatest-of .result) (p .total) (p .square) (p .a) (p .b) (c .before .before .before .before .greatest-of .ensures) (c .weigh .ensures)
 
 pub best-pair-spec : {M : Type 1} → statement M
 best-pair-spec =

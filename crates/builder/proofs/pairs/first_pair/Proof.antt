@@ -35,8 +35,14 @@ loop2-holds c =
     let a = c .before .before .before .before .args in
     c .before .loop .inv ∙ pair-open (baseOf (a .masks .now) (a .depths .now)) (row (a .t) (a .limit)) (length (a .masks .now)) (c .before .loop .i) (lines-length (a .masks .now) (a .depths .now) (c .before .before .before .before .pre .0)) (c .loop-test .taken)
 
+mul-if1 : tie.Need-mul-if1 Inv-loop2 μ-loop2 Inv-loop μ-loop
+mul-if1 c = search needs
+
 shared-slice-read-if1 : tie.Need-shared-slice-read-if1 Inv-loop2 μ-loop2 Inv-loop μ-loop
 shared-slice-read-if1 c = search needs
+
+mul-if1-2 : tie.Need-mul-if1-2 Inv-loop2 μ-loop2 Inv-loop μ-loop
+mul-if1-2 c = search needs
 
 shared-slice-read-if1-2 : tie.Need-shared-slice-read-if1-2 Inv-loop2 μ-loop2 Inv-loop μ-loop
 shared-slice-read-if1-2 c = search needs
@@ -102,7 +108,9 @@ first-pair-spec =
     loop-holds
     add-j
     loop2-holds
+    mul-if1
     shared-slice-read-if1
+    mul-if1-2
     shared-slice-read-if1-2
     shared-slice-read-deeper
     shared-slice-read-deeper-2

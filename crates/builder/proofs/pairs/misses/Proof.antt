@@ -16,10 +16,10 @@ add-if1 : tie.Need-add-if1
 add-if1 c = omega (arith, c .before .pre .1 .0 (bitXor (c .before .args .place) (c .before .args .m)))
 
 returns : tie.Need-returns
-returns c = sym (misses-near (c .before .before .args .h .now) (c .before .before .args .place) (c .before .before .args .room) (c .before .before .args .m) (c .before .before .args .c) (c .if1 .taken))
+returns c = sym (misses-near (c .before .before .args .h .now) (c .before .before .args .m) (c .before .before .args .c) (c .before .before .args .place) (c .before .before .args .room) (c .if1 .taken))
 
 returns-2 : tie.Need-returns-2
-returns-2 c = sym (misses-far (c .before .before .args .h .now) (c .before .before .args .place) (c .before .before .args .room) (c .before .before .args .m) (c .before .before .args .c) (c .if1 .left))
+returns-2 c = sym (misses-far (c .before .before .args .h .now) (c .before .before .args .m) (c .before .before .args .c) (c .before .before .args .place) (c .before .before .args .room) (c .if1 .left))
 
 pub misses-spec : {M : Type 1} → statement M
 misses-spec = tie.close (tie.spec mul-if1 element-copy-out-if1 add-if1 returns returns-2)

@@ -6,8 +6,7 @@ use borrow.Author.Needs.{needs}
 use borrow.Author.Tests.{eq-eqb, ne-eqb}
 use lib.ListN.{getD}
 use Rattle.distance.specs.Base.{baseOf}
-use Rattle.builder.specs.Rule.{row, firstPair}
-use Rattle.builder.specs.Kept.{rowsOf}
+use Rattle.builder.specs.Rule.{row, rowsOf, firstPair}
 use Rattle.builder.proofs.Lists.{lines-length, rows-length}
 use Rattle.builder.proofs.Choice.{Passed, passed-start, passed-hit, passed-some, passed-more, passed-total, passed-best}
 use Rattle.builder.proofs.Weighed.{gaps-length, gap-at, gap-small}
@@ -26,7 +25,10 @@ loop-holds c = passed-start _ _
 shared-slice-read-gap : tie.Need-shared-slice-read-gap Inv-loop μ-loop
 shared-slice-read-gap c =
     let a = c .before .before .before .before .before .before .before .before .args in
-    omega (arith, c .before .loop-test .taken, gaps-length (a .masks .now) (a .depths .now) (a .rows .now) (a .limits .now) (a .gaps .now) (a .h .now) (c .before .before .before .before .before .before .before .before .pre) (λ i. c .before .before .before .before .before .before .before .shared-slice-known .given i .fits) (λ i. c .before .before .before .before .before .shared-slice-known3 .given i .fits))
+    omega (arith, c .before .loop-test .taken, gaps-length (a .masks .now) (a .depths .now) (a .rows .now) (a .limits .now) (a .gaps .now) (a .h .now) (c .before .before .before .before .before .before .before .before .pre))
+
+mul-first-pair : tie.Need-mul-first-pair Inv-loop μ-loop
+mul-first-pair c = search needs
 
 shared-slice-read-first-pair : tie.Need-shared-slice-read-first-pair Inv-loop μ-loop
 shared-slice-read-first-pair c = search needs
@@ -43,7 +45,7 @@ returns c =
     let z = c .before .before .before .before .before .before .before .before .before .before .before .before .pre in
     let i = c .before .before .before .before .before .before .loop .i in
     let ls = baseOf (a .masks .now) (a .depths .now) in
-    let g = gap-at (a .masks .now) (a .depths .now) (a .rows .now) (a .limits .now) (a .gaps .now) (a .h .now) z (λ i. c .before .before .before .before .before .before .before .before .before .before .before .shared-slice-known .given i .fits) (λ i. c .before .before .before .before .before .before .before .before .before .shared-slice-known3 .given i .fits) i (c .before .before .before .before .before .loop-test .taken) in
+    let g = gap-at (a .masks .now) (a .depths .now) (a .rows .now) (a .limits .now) (a .gaps .now) (a .h .now) z i (c .before .before .before .before .before .loop-test .taken) in
     record {
       over-is = passed-some ls (a .rows .now) (a .limits .now) i (c .before .before .before .before .before .before .loop .sum) (getD (a .gaps .now) i 0) (z .paired) (c .before .before .before .before .before .loop-test .taken) g (c .before .before .before .before .before .before .loop .inv) (c .before .before .before .if1 .taken);
       pair = λ o.
@@ -54,12 +56,12 @@ returns c =
 cast-sum : tie.Need-cast-sum Inv-loop μ-loop
 cast-sum c =
     let a = c .before .before .before .before .before .before .before .before .before .args in
-    omega (arith, gap-small (a .masks .now) (a .depths .now) (a .rows .now) (a .limits .now) (a .gaps .now) (a .h .now) (c .before .before .before .before .before .before .before .before .before .pre) (λ i. c .before .before .before .before .before .before .before .before .shared-slice-known .given i .fits) (λ i. c .before .before .before .before .before .before .shared-slice-known3 .given i .fits) (c .before .before .before .loop .i))
+    omega (arith, gap-small (a .masks .now) (a .depths .now) (a .rows .now) (a .limits .now) (a .gaps .now) (a .h .now) (c .before .before .before .before .before .before .before .before .before .pre) (c .before .before .before .loop .i))
 
 add-sum : tie.Need-add-sum Inv-loop μ-loop
 add-sum c =
     let a = c .before .before .before .before .before .before .before .before .before .args in
-    omega (arith, c .before .before .before .loop .inv .small, c .before .before .loop-test .taken, c .before .before .before .before .before .before .before .before .before .pre .few, gap-small (a .masks .now) (a .depths .now) (a .rows .now) (a .limits .now) (a .gaps .now) (a .h .now) (c .before .before .before .before .before .before .before .before .before .pre) (λ i. c .before .before .before .before .before .before .before .before .shared-slice-known .given i .fits) (λ i. c .before .before .before .before .before .before .shared-slice-known3 .given i .fits) (c .before .before .before .loop .i))
+    omega (arith, c .before .before .before .loop .inv .small, c .before .before .loop-test .taken, c .before .before .before .before .before .before .before .before .before .pre .few, gap-small (a .masks .now) (a .depths .now) (a .rows .now) (a .limits .now) (a .gaps .now) (a .h .now) (c .before .before .before .before .before .before .before .before .before .pre) (c .before .before .before .loop .i))
 
 add-i : tie.Need-add-i Inv-loop μ-loop
 add-i c = search needs
@@ -72,9 +74,9 @@ loop-again c =
     let a = c .before .before .before .before .before .before .before .before .before .args in
     let z = c .before .before .before .before .before .before .before .before .before .pre in
     let i = c .before .before .before .loop .i in
-    let g = gap-at (a .masks .now) (a .depths .now) (a .rows .now) (a .limits .now) (a .gaps .now) (a .h .now) z (λ i. c .before .before .before .before .before .before .before .before .shared-slice-known .given i .fits) (λ i. c .before .before .before .before .before .before .shared-slice-known3 .given i .fits) i (c .before .before .loop-test .taken) in
+    let g = gap-at (a .masks .now) (a .depths .now) (a .rows .now) (a .limits .now) (a .gaps .now) (a .h .now) z i (c .before .before .loop-test .taken) in
     passed-more (baseOf (a .masks .now) (a .depths .now)) (a .rows .now) (a .limits .now) i (c .before .before .before .loop .sum) (getD (a .gaps .now) i 0) (z .paired) (c .before .before .loop-test .taken) g (c .before .before .before .loop .inv) (c .if1 .left)
-    (omega (arith, gap-small (a .masks .now) (a .depths .now) (a .rows .now) (a .limits .now) (a .gaps .now) (a .h .now) (c .before .before .before .before .before .before .before .before .before .pre) (λ i. c .before .before .before .before .before .before .before .before .shared-slice-known .given i .fits) (λ i. c .before .before .before .before .before .before .shared-slice-known3 .given i .fits) i))
+    (omega (arith, gap-small (a .masks .now) (a .depths .now) (a .rows .now) (a .limits .now) (a .gaps .now) (a .h .now) (c .before .before .before .before .before .before .before .before .before .pre) i))
 
 -- the sum of all distances
 total : (c : tie.After-loop Inv-loop μ-loop) → Rattle.builder.specs.Rule.sum (Rattle.builder.specs.Rule.distances (baseOf (c .before .before .before .before .before .before .before .args .masks .now) (c .before .before .before .before .before .before .before .args .depths .now)) (rowsOf (c .before .before .before .before .before .before .before .args .rows .now) (c .before .before .before .before .before .before .before .args .limits .now))) ≡ c .before .loop .sum
@@ -106,6 +108,7 @@ next-gate-spec =
     μ-loop
     loop-holds
     shared-slice-read-gap
+    mul-first-pair
     shared-slice-read-first-pair
     shared-slice-read-first-pair-2
     first-pair-requires

@@ -9,8 +9,7 @@ use Rattle.circuit.specs.Lines.{padded}
 use Rattle.circuit.specs.Sizes.{mostOutputs}
 use Rattle.circuit.proofs.Padding.{padded-none, padded-next, padded-all}
 use Rattle.distance.specs.Base.{baseOf}
-use Rattle.builder.specs.Rule.{row, lowest}
-use Rattle.builder.specs.Kept.{rowsOf}
+use Rattle.builder.specs.Rule.{row, rowsOf, lowest}
 use Rattle.builder.proofs.Steps.{lowest-byte, outs-at, outs-length}
 use Rattle.builder.proofs.program.outputs.Statement.{statement}
 use Rattle.builder.proofs.program.outputs.Tie as tie
@@ -26,6 +25,9 @@ loop-holds c = (search needs, sym (padded-none mostOutputs 0))
 
 shared-slice-read-lowest : tie.Need-shared-slice-read-lowest Inv-loop μ-loop
 shared-slice-read-lowest c = search needs
+
+cast-lowest : tie.Need-cast-lowest Inv-loop μ-loop
+cast-lowest c = omega (arith, c .shared-slice-known5 .given (c .before .before .loop .i) .fits)
 
 shared-slice-read-lowest-2 : tie.Need-shared-slice-read-lowest-2 Inv-loop μ-loop
 shared-slice-read-lowest-2 c = omega (arith, c .before .before .loop-test .taken, c .before .before .before .before .before .before .before .before .pre .1 .0)
@@ -68,6 +70,7 @@ outputs-spec =
     μ-loop
     loop-holds
     shared-slice-read-lowest
+    cast-lowest
     shared-slice-read-lowest-2
     lowest-requires
     cast-outs
