@@ -11,7 +11,7 @@ use Rattle.circuit.specs.declared.Answer.{Answer}
 use Rattle.circuit.specs.declared.Answer.the-variants.{Done, Refused}
 use Rattle.circuit.specs.declared.Refusal.{Refusal}
 use Rattle.circuit.specs.declared.Refusal.the-variants.{Target as BadTarget}
-use Rattle.circuit.specs.Lines.{Listing, gateAt, padded}
+use Rattle.circuit.specs.Lines.{Listing, padded}
 use Rattle.circuit.specs.Structs.{held}
 use Rattle.circuit.specs.Rules.{unless, andThen}
 use Rattle.circuit.specs.Sizes.{mostValues}
@@ -31,8 +31,8 @@ use Rattle.bench.specs.declared.Opened.{Opened}
 use Rattle.bench.specs.State.{Limits, State, Present, limits}
 use Rattle.bench.specs.Held.{fullBench, benchOf, Stands, unexamined}
 use Rattle.bench.specs.Calls.{after, openAnswer, openState, afterOpen, benchAfterOpen, OpenPromise}
-use Rattle.bench.specs.Parts.{gateOn, examinedAs, examined, placedOf}
-use Rattle.bench.proofs.Standing.{gate-of, full-examined, examined-same}
+use Rattle.bench.specs.Parts.{examinedAs, examined, placedOf}
+use Rattle.bench.proofs.Standing.{examined-full}
 
 -- ---- the bench with a circuit, a target and limits
 
@@ -45,16 +45,12 @@ placed-by c only bytes T W l e f =
     λ i. examined (unexamined true c only (e i) (w i) l)
 
 module _ (s : State) (f : CircuitFits (isMatrix (s .target)) (s .circuit)) where
-  full-examining : examined (fullBench s) ≡ fullBench s
-  full-examining =
-      examined-same (fullBench s) (gateAt (s .circuit)) (gateOn (fullBench s)) (λ i h. gate-of s f i) ∙ sym (full-examined s (f .shape .n-most))
-
   pub placed-full : placedOf (held (s .circuit)) (isMatrix (s .target)) (targetBytes (s .target)) (s .limits) ≡ fullBench s
   unfolding placedOf fullBench examinedAs
   placed-full =
       let t = s .target in
       (λ i. examined (unexamined true (held (s .circuit)) (isMatrix t) (padded mostValues 0 (targetBytes t)) (wanted-padded t (length (s .circuit .outs)) i) (s .limits)))
-      ∙ full-examining
+      ∙ examined-full s f
 
 -- ---- what the reader's result shows
 

@@ -22,9 +22,9 @@ use Rattle.bench.specs.declared.Bench.{Bench}
 use Rattle.bench.specs.declared.Edit.{Edit}
 use Rattle.bench.specs.State.{State, withCircuit, Present, present}
 use Rattle.bench.specs.Held.{fullBench, benchOf, holding, recircuited}
-use Rattle.bench.specs.Parts.{gateOn, examinedAs, examined, AllBelow, Agree, regated, HeldBut, Reexamined}
+use Rattle.bench.specs.Parts.{gateOn, examinedAs, AllBelow, Agree, regated, HeldBut, Reexamined}
 use Rattle.bench.specs.Calls.{after, readersOf, reworking, noRework, editBy}
-use Rattle.bench.proofs.Standing.{all-below, gate-of, full-examined, examined-same}
+use Rattle.bench.proofs.Standing.{all-below, gate-of, examined-full}
 
 -- ---- what is given by what was looked at
 
@@ -89,12 +89,6 @@ module _ (s : State) (k : ℕ) (qs : List Gate) where
     unfolding stale
     stale-gate j = gate-of next fits j
 
-    -- examined, it is the bench of the new state
-    stale-examined : examined stale ≡ fullBench next
-    unfolding stale examinedAs
-    stale-examined =
-        examined-same (fullBench next) (gateAt (next .circuit)) (gateOn (fullBench next)) (λ i h. gate-of next fits i) ∙ sym (full-examined next (fits .shape .n-most))
-
     stale-below : AllBelow (stale .n) (stale .g) (gateOn stale)
     unfolding stale fullBench
     stale-below j l =
@@ -103,7 +97,8 @@ module _ (s : State) (k : ℕ) (qs : List Gate) where
 
     -- what the re-examination leaves, where the other lines held what the old gates give
     pub fresh-bench : (old : ℕ → Gate) → Agree k old (gateAt (next .circuit)) → HeldBut stale k old → (r : Bench) (x : Edit) → Reexamined stale k r x → r ≡ fullBench next
-    fresh-bench old agree was r x e = e .fresh stale-below old (λ j ne. stale-gate j ∙ agree j ne) was ∙ stale-examined
+    unfolding stale examinedAs
+    fresh-bench old agree was r x e = e .fresh stale-below old (λ j ne. stale-gate j ∙ agree j ne) was ∙ examined-full next fits
 
     -- what it lists
     pub fresh-lines : (r : Bench) (x : Edit) → Reexamined stale k r x → x ≡ reworking (readersOf (next .circuit) k)

@@ -1,5 +1,5 @@
 -- What a sound state shows, and what a bench that stands for it has. Assumes nothing.
-use mathlib.Core.Path.{_≡_, ap, sym}
+use mathlib.Core.Path.{_≡_, ap, _∙_, sym}
 use mathlib.Core.Bool.{Bool, true}
 use mathlib.Core.List.{List, _++_}
 use Prim.Native.Nat.{ℕ, _≤_, _<_, _-_, _+_}
@@ -16,7 +16,7 @@ use Rattle.targets.specs.Target.{isMatrix}
 use Rattle.bench.specs.declared.Bench.{Bench}
 use Rattle.bench.specs.State.{State, Sound}
 use Rattle.bench.specs.Held.{fullBench, holding}
-use Rattle.bench.specs.Parts.{gateOn, entries, examinedAs, AllBelow, standing}
+use Rattle.bench.specs.Parts.{gateOn, entries, examinedAs, examined, AllBelow, standing}
 
 -- ---- a circuit that is accepted
 
@@ -58,6 +58,10 @@ examined-same b old new h =
     let c = lines-agree andStep 0 (replicate (b .n) 0) old new (b .g) h in
     let w = lines-agree wordsStep noWords (take (b .n) inputWords) old new (b .g) h in
     λ i. holding b (a i ++ replicate (mostLines - (b .n + b .g)) 0) (c i ++ replicate (mostLines - (b .n + b .g)) 0) (w i ++ replicate (mostLines - (b .n + b .g)) noWords)
+
+-- so the bench of a state whose circuit is accepted, examined afresh, is itself
+pub examined-full : (s : State) → CircuitFits (isMatrix (s .target)) (s .circuit) → examined (fullBench s) ≡ fullBench s
+examined-full s f = examined-same (fullBench s) (gateAt (s .circuit)) (gateOn (fullBench s)) (λ i h. gate-of s f i) ∙ sym (full-examined s (f .shape .n-most))
 
 -- something is open on it
 pub full-standing : (s : State) → Sound s → standing true (s .circuit .inputs) (length (s .circuit .outs)) (length (s .circuit .gates)) ≡ true

@@ -26,9 +26,9 @@ use Rattle.bench.specs.declared.Edit.{Edit}
 use Rattle.bench.specs.State.{State, withCircuit, Present, Sound}
 use Rattle.bench.specs.Held.{fullBench, benchOf, circuitOf, recircuited, retargeted}
 use Rattle.bench.specs.Calls.{afterSweep, sweepEdit, reworking, noRework, SweepPromise}
-use Rattle.bench.specs.Parts.{gateOn, examinedAs, examined}
+use Rattle.bench.specs.Parts.{examinedAs, examined}
 use Rattle.bench.proofs.Places.{Tells, tells-none, tells-hit}
-use Rattle.bench.proofs.Standing.{gate-of, full-examined, examined-same}
+use Rattle.bench.proofs.Standing.{examined-full}
 use Rattle.bench.proofs.StoreLaws.{circuit-of-full}
 use Rattle.bench.proofs.Stood.{openOn, standing-shaped, when-open, when-shut}
 
@@ -66,9 +66,6 @@ swept-held only c ok =
     ∙ ap (λ (z : Listing). held (swept z)) (listed-held only c ok)
 
 -- ---- the bench examined afresh
-
-examined-full : (s : State) → CircuitFits (isMatrix (s .target)) (s .circuit) → examined (fullBench s) ≡ fullBench s
-examined-full s f = examined-same (fullBench s) (gateAt (s .circuit)) (gateOn (fullBench s)) (λ i h. gate-of s f i) ∙ sym (full-examined s (f .shape .n-most))
 
 -- the bench of a state, with another circuit of as many outputs placed on it and examined, is the bench of the state with that circuit
 pub anew-full : (s : State) (c : Listing) → CircuitFits (isMatrix (s .target)) c → length (c .outs) ≡ length (s .circuit .outs)
