@@ -12,11 +12,10 @@ use Rattle.circuit.specs.declared.Answer.the-variants.{Done, Refused}
 use Rattle.circuit.specs.declared.Refusal.the-variants.{Length}
 use Rattle.circuit.specs.Structs.{listed}
 use Rattle.circuit.proofs.Listed.{listed-held}
+use Rattle.circuit.proofs.RuleLaws.{circuit-fits}
 use Rattle.builder.specs.declared.Planned.{Planned}
 use Rattle.builder.specs.Call.{built, refusal, planned, planOf}
-use Rattle.builder.proofs.Promise.{built-shaped}
-use Rattle.builder.proofs.Refusals.{accepted}
-use Rattle.builder.proofs.Solved.{sound-circuit}
+use Rattle.builder.proofs.Theorems.{sound-circuit}
 use Rattle.listing.specs.Printed.{listingText, refusedText}
 use Rattle.build.specs.Answered.{whole, planText, answerText, Fits}
 
@@ -49,7 +48,7 @@ pub plan-text : (n : ℕ) (ts : List ℕ) (D : ℕ) (p : Planned) → p ≡ plan
 unfolding planOf
 plan-text n ts D p e = ap (λ (q : Planned). planText (q .answer) (listed (q .circuit))) e ∙ by (refusal n ts D) refl where
   by : (a : Answer) → refusal n ts D ≡ a → planText (planned a (built n ts D) .answer) (listed (planned a (built n ts D) .circuit)) ≡ planText a (built n ts D)
-  by Done h = ap listingText (listed-held true (built n ts D) (sound-circuit n ts D (accepted n ts D h)))
+  by Done h = ap listingText (listed-held true (built n ts D) (sound-circuit n ts D h))
   by (Refused w) h = refl
 
 -- a plan that is accepted is in range
@@ -57,5 +56,5 @@ pub plan-fits : (n : ℕ) (ts : List ℕ) (D : ℕ) (p : Planned) → p ≡ plan
 unfolding planOf
 plan-fits n ts D p e = rw e (by (refusal n ts D) refl) where
   by : (a : Answer) → refusal n ts D ≡ a → Fits (planned a (built n ts D))
-  by Done h = λ _. built-shaped n ts D (accepted n ts D h .shape)
+  by Done h = λ _. circuit-fits true (built n ts D) (sound-circuit n ts D h) .shaped-true
   by (Refused w) h = λ d. let z : _≡_ {A = ℕ} 0 1 = cc in absurd (omega arith)

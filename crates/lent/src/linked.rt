@@ -3,6 +3,7 @@ ghost use mathlib.Core.Path.{_≡_};
 ghost use Rattle.stored.specs.Writing.{Restored};
 ghost use Rattle.distance.specs.Query.{distanceCode, answerOf};
 ghost use Rattle.builder.specs.Call.{BuildsNumbered};
+ghost use Rattle.builder.specs.Late.{BuildsLateNumbered};
 ghost use Rattle.targets.specs.Target.{matrix, table};
 ghost use Rattle.bench.specs.State.{limits};
 ghost use Rattle.coded.specs.Coded.{OpenCode, GateCode, OutputCode, EntryCode, LimitsCode, SweepCode, AppendCode, ReportCodePromise, StoreCode, EquationsCode};
@@ -151,6 +152,20 @@ pub extern "C" fn allpawasi_build(n: usize, rows: &[u8], d: usize, room: &mut [u
     ensures { λ r. ⌜ BuildsNumbered n (now (rows .entry)) d (now (room .entry)) r (now (room .exit)) ⌝ }
 {
     builder::build_no(n, rows, d, room)
+}
+
+// Builds an XOR program for inputs with arrival depths and rows with depth limits of their own: answered as `allpawasi_build` is.
+#[no_mangle]
+pub extern "C" fn allpawasi_build_late(
+    n: usize,
+    arrivals: &[u8],
+    rows: &[u8],
+    limits: &[u8],
+    room: &mut [u8],
+) -> usize
+    ensures { λ r. ⌜ BuildsLateNumbered n (now (arrivals .entry)) (now (rows .entry)) (now (limits .entry)) (now (room .entry)) r (now (room .exit)) ⌝ }
+{
+    builder::build_late_no(n, arrivals, rows, limits, room)
 }
 
 // The fewest XOR gates that make a target over a base; 99 where no program does; 100 and the refusal's number.

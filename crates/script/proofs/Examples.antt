@@ -4,7 +4,7 @@ use mathlib.Core.List.{List, [], _∷_, map}
 use Prim.Native.Nat.{ℕ}
 use Rattle.text.specs.Places.{leading, headWord, tailWords, sameList}
 use Rattle.text.specs.Numbers.{numFrom, allHex, hexBytes}
-use Rattle.script.specs.Order.{Order, silent, unreadable, askOpenTable, askGate, askLimits, askSweep, askAppend, askStore, askBuild, askDistance, askEquations}
+use Rattle.script.specs.Order.{Order, silent, unreadable, askOpenTable, askGate, askLimits, askSweep, askAppend, askStore, askBuild, askLate, askDistance, askEquations}
 use Rattle.script.specs.Reading.{number, limit, isPairs, hex, kind, noMore, byWord, orderIn}
 
 -- lines, and what each asks
@@ -40,6 +40,10 @@ examples =
     (98 ∷ 117 ∷ 105 ∷ 108 ∷ 100 ∷ 32 ∷ 51 ∷ 32 ∷ 48 ∷ 51 ∷ 97 ∷ 65 ∷ 70 ∷ 102 ∷ 32 ∷ 50 ∷ 32 ∷ 54 ∷ 52 ∷ [], askBuild 3 (3 ∷ 170 ∷ 255 ∷ []) 2 64) ∷
     -- build 3 030 2 64
     (98 ∷ 117 ∷ 105 ∷ 108 ∷ 100 ∷ 32 ∷ 51 ∷ 32 ∷ 48 ∷ 51 ∷ 48 ∷ 32 ∷ 50 ∷ 32 ∷ 54 ∷ 52 ∷ [], unreadable) ∷
+    -- late 2 0003 03 04 64
+    (108 ∷ 97 ∷ 116 ∷ 101 ∷ 32 ∷ 50 ∷ 32 ∷ 48 ∷ 48 ∷ 48 ∷ 51 ∷ 32 ∷ 48 ∷ 51 ∷ 32 ∷ 48 ∷ 52 ∷ 32 ∷ 54 ∷ 52 ∷ [], askLate 2 (0 ∷ 3 ∷ []) (3 ∷ []) (4 ∷ []) 64) ∷
+    -- late 2 0003 03 64
+    (108 ∷ 97 ∷ 116 ∷ 101 ∷ 32 ∷ 50 ∷ 32 ∷ 48 ∷ 48 ∷ 48 ∷ 51 ∷ 32 ∷ 48 ∷ 51 ∷ 32 ∷ 54 ∷ 52 ∷ [], unreadable) ∷
     -- distance 4 01 - 15 3
     (100 ∷ 105 ∷ 115 ∷ 116 ∷ 97 ∷ 110 ∷ 99 ∷ 101 ∷ 32 ∷ 52 ∷ 32 ∷ 48 ∷ 49 ∷ 32 ∷ 45 ∷ 32 ∷ 49 ∷ 53 ∷ 32 ∷ 51 ∷ [], askDistance 4 (1 ∷ []) [] 15 3) ∷
     -- equations 79303d7830 100

@@ -14,7 +14,7 @@ use Rattle.script.specs.declared.Part.{Part}
 use Rattle.script.specs.declared.words.Cursor.{Cursor}
 use Rattle.script.specs.Order.{unreadable, bytesOf}
 use Rattle.script.specs.Reading.{Rest, isPairs, isHex, hex}
-use Rattle.script.specs.Placed.{HexPart, HexParts}
+use Rattle.script.specs.Placed.{HexPart, HexParts, HexThree}
 use Rattle.script.specs.Cursors.{Within, Took, TookHex}
 use Rattle.script.proofs.Steps.{word-inside, word-test, took-none, took-word, took-lost}
 
@@ -130,6 +130,11 @@ module _ {line : List ℕ} {c : Cursor} (w : Within line c) where
 -- two words that say bytes, the second looked for after the first
 pub hex-parts : {line : List ℕ} {c d mid rest : Cursor} {p q : Part} → TookHex line c p mid → TookHex line d q rest → mid .at ≤ d .at → HexParts line p q
 hex-parts t u h = record { first = t .place; second = u .place; apart = omega (arith, t .ends, u .after) }
+
+-- and a third after those two
+pub hex-three : {line : List ℕ} {c d mid rest : Cursor} {p q r : Part} → HexParts line p q → TookHex line c q mid → TookHex line d r rest → mid .at ≤ d .at
+    → HexThree line p q r
+hex-three two t u h = let more = hex-parts t u h in record { two = two; third = more .second; apart = more .apart }
 
 -- ---- which word a part is
 

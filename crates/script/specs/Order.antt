@@ -5,7 +5,7 @@ use lib.ListN.{take, drop}
 use Rattle.text.specs.Numbers.{hexBytes}
 use Rattle.script.specs.declared.Part.{Part}
 use Rattle.script.specs.declared.Call.{Call}
-use Rattle.script.specs.declared.Call.the-variants.{Silent, Unreadable, New, OpenMatrix, OpenTable, Report, Gate, Output, Entry, Limits, Sweep, Append, Store, Held, Show, Build, Distance, Equations}
+use Rattle.script.specs.declared.Call.the-variants.{Silent, Unreadable, New, OpenMatrix, OpenTable, Report, Gate, Output, Entry, Limits, Sweep, Append, Store, Held, Show, Build, Late, Distance, Equations}
 
 -- what a line asks; the arguments are those of the call, in the order in which they are typed
 pub data Order : Type 0 where
@@ -25,6 +25,7 @@ pub data Order : Type 0 where
   askHeld : Order
   askShow : Order
   askBuild : (n : ℕ) (rows : List ℕ) (d room : ℕ) → Order
+  askLate : (n : ℕ) (arrivals rows limits : List ℕ) (room : ℕ) → Order
   askDistance : (n : ℕ) (masks depths : List ℕ) (target d : ℕ) → Order
   askEquations : (file : List ℕ) (room : ℕ) → Order
 
@@ -54,5 +55,6 @@ orderOf line (Store room) = askStore room
 orderOf line Held = askHeld
 orderOf line Show = askShow
 orderOf line (Build b) = askBuild (b .n) (bytesOf line (b .rows)) (b .d) (b .room)
+orderOf line (Late b) = askLate (b .n) (bytesOf line (b .arrivals)) (bytesOf line (b .rows)) (bytesOf line (b .limits)) (b .room)
 orderOf line (Distance d) = askDistance (d .n) (bytesOf line (d .masks)) (bytesOf line (d .depths)) (d .target) (d .d)
 orderOf line (Equations q) = askEquations (bytesOf line (q .file)) (q .room)

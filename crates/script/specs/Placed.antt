@@ -8,7 +8,7 @@ use Rattle.text.specs.Places.{tailWords}
 use Rattle.text.specs.Numbers.{allHex}
 use Rattle.script.specs.declared.Part.{Part}
 use Rattle.script.specs.declared.Call.{Call}
-use Rattle.script.specs.declared.Call.the-variants.{Silent, Unreadable, New, OpenMatrix, OpenTable, Report, Gate, Output, Entry, Limits, Sweep, Append, Store, Held, Show, Build, Distance, Equations}
+use Rattle.script.specs.declared.Call.the-variants.{Silent, Unreadable, New, OpenMatrix, OpenTable, Report, Gate, Output, Entry, Limits, Sweep, Append, Store, Held, Show, Build, Late, Distance, Equations}
 use Rattle.script.specs.Order.{Order, digitsOf, orderOf}
 
 -- a part of pairs of hexadecimal digits, within a line that is not too long
@@ -24,6 +24,12 @@ pub record HexParts (line : List ℕ) (p q : Part) : Type 0 where
   pub first : HexPart line p
   pub second : HexPart line q
   pub apart : p .to ≤ q .from
+
+-- three such parts, each after the one before
+pub record HexThree (line : List ℕ) (p q r : Part) : Type 0 where
+  pub two : HexParts line p q
+  pub third : HexPart line r
+  pub apart : q .to ≤ r .from
 
 -- the parts of a call
 abbrev pub Placed : List ℕ → Call → Type 0
@@ -43,6 +49,7 @@ Placed line (Store room) = Unit
 Placed line Held = Unit
 Placed line Show = Unit
 Placed line (Build b) = HexPart line (b .rows)
+Placed line (Late b) = HexThree line (b .arrivals) (b .rows) (b .limits)
 Placed line (Distance d) = HexParts line (d .masks) (d .depths)
 Placed line (Equations q) = HexPart line (q .file)
 
@@ -69,6 +76,7 @@ Follows line (Store room) = Unit
 Follows line Held = Unit
 Follows line Show = Unit
 Follows line (Build b) = drop (b .rows .to) line ≡ afterWords 3 line
+Follows line (Late b) = (drop (b .arrivals .to) line ≡ afterWords 3 line) × ((drop (b .rows .to) line ≡ afterWords 4 line) × (drop (b .limits .to) line ≡ afterWords 5 line))
 Follows line (Distance d) = (drop (d .masks .to) line ≡ afterWords 3 line) × (drop (d .depths .to) line ≡ afterWords 4 line)
 Follows line (Equations q) = drop (q .file .to) line ≡ afterWords 2 line
 

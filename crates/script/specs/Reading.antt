@@ -8,7 +8,7 @@ use Rattle.text.specs.declared.Number.{Number}
 use Rattle.text.specs.declared.Number.the-variants.{Value, Not}
 use Rattle.text.specs.Places.{headWord, tailWords, sameList}
 use Rattle.text.specs.Numbers.{numberIn, allHex, hexBytes}
-use Rattle.script.specs.Order.{Order, silent, unreadable, askNew, askOpenMatrix, askOpenTable, askReport, askGate, askOutput, askEntry, askLimits, askSweep, askAppend, askStore, askHeld, askShow, askBuild, askDistance, askEquations}
+use Rattle.script.specs.Order.{Order, silent, unreadable, askNew, askOpenMatrix, askOpenTable, askReport, askGate, askOutput, askEntry, askLimits, askSweep, askAppend, askStore, askHeld, askShow, askBuild, askLate, askDistance, askEquations}
 
 -- what the rest of a line asks
 abbrev pub Rest : Type 0
@@ -93,6 +93,10 @@ storeRest = number (λ room. noMore (askStore room))
 abbrev pub buildRest : Rest
 buildRest = number (λ n. hex (λ rows. number (λ d. number (λ room. noMore (askBuild n rows d room)))))
 
+-- `late N ARRIVALSHEX ROWSHEX LIMITSHEX ROOM`
+abbrev pub lateRest : Rest
+lateRest = number (λ n. hex (λ arrivals. hex (λ rows. hex (λ limits. number (λ room. noMore (askLate n arrivals rows limits room))))))
+
 -- `distance N MASKSHEX DEPTHSHEX T D`
 abbrev pub distanceRest : Rest
 distanceRest = number (λ n. hex (λ masks. hex (λ depths. number (λ t. number (λ d. noMore (askDistance n masks depths t d))))))
@@ -153,6 +157,10 @@ storeWord = 115 ∷ 116 ∷ 111 ∷ 114 ∷ 101 ∷ []
 abbrev pub buildWord : List ℕ
 buildWord = 98 ∷ 117 ∷ 105 ∷ 108 ∷ 100 ∷ []
 
+-- the word `late`
+abbrev pub lateWord : List ℕ
+lateWord = 108 ∷ 97 ∷ 116 ∷ 101 ∷ []
+
 -- the word `distance`
 abbrev pub distanceWord : List ℕ
 distanceWord = 100 ∷ 105 ∷ 115 ∷ 116 ∷ 97 ∷ 110 ∷ 99 ∷ 101 ∷ []
@@ -173,7 +181,8 @@ byWord (row ∷ rows) w s = cond (sameList w (row .0)) (row .1 s) (byWord rows w
 -- calls that bring or take bytes
 abbrev pub bytesCalls : Table
 bytesCalls =
-    (openWord, openRest) ∷ (storeWord, storeRest) ∷ (buildWord, buildRest) ∷ (distanceWord, distanceRest) ∷ (equationsWord, equationsRest) ∷ []
+    (openWord, openRest) ∷ (storeWord, storeRest) ∷ (buildWord, buildRest) ∷ (lateWord, lateRest) ∷ (distanceWord, distanceRest)
+    ∷ (equationsWord, equationsRest) ∷ []
 
 -- those, and edits
 abbrev pub editCalls : Table

@@ -6,6 +6,7 @@ use crate::DistanceCall;
 use crate::EntryEdit;
 use crate::EquationsCall;
 use crate::GateEdit;
+use crate::LateCall;
 use crate::LimitsEdit;
 use crate::Opening;
 use crate::OutputEdit;
@@ -18,7 +19,7 @@ use crate::words::number_at;
 ghost use mathlib.Core.Path.{_≡_};
 ghost use mathlib.Core.Bool.{Bool};
 ghost use Rattle.script.specs.Order.{orderOf};
-ghost use Rattle.script.specs.Reading.{openRest, gateRest, outputRest, entryRest, limitsRest, appendRest, storeRest, buildRest, distanceRest, equationsRest, noMore};
+ghost use Rattle.script.specs.Reading.{openRest, gateRest, outputRest, entryRest, limitsRest, appendRest, storeRest, buildRest, lateRest, distanceRest, equationsRest, noMore};
 ghost use Rattle.script.specs.Placed.{Placed, Follows, Means};
 ghost use Rattle.script.specs.Cursors.{onward, Within, Second};
 
@@ -163,6 +164,29 @@ pub(crate) fn read_build(line: &[u8], here: Cursor) -> Call
         room: room.value,
     };
     finish(line, room.rest, Call::Build(call))
+}
+
+// `late N ARRIVALSHEX ROWSHEX LIMITSHEX ROOM`.
+pub(crate) fn read_late(line: &[u8], here: Cursor) -> Call
+    requires { ⌜ Second (now line) here ⌝ }
+    ensures { λ r. ⌜ Means (now (line .entry)) r (onward (now (line .entry)) here lateRest) ⌝ }
+{
+    let n = number_at(line, here);
+    let late = hex_at(line, n.rest);
+    let masks = hex_at(line, late.rest);
+    let deep = hex_at(line, masks.rest);
+    let room = number_at(line, deep.rest);
+    let arrivals = late.part;
+    let rows = masks.part;
+    let limits = deep.part;
+    let call = LateCall {
+        n: n.value,
+        arrivals,
+        rows,
+        limits,
+        room: room.value,
+    };
+    finish(line, room.rest, Call::Late(call))
 }
 
 // `distance N MASKSHEX DEPTHSHEX T D`.

@@ -64,6 +64,15 @@ pub struct BuildCall {
     pub room: usize,
 }
 
+// `late N ARRIVALSHEX ROWSHEX LIMITSHEX ROOM`.
+pub struct LateCall {
+    pub n: usize,
+    pub arrivals: Part,
+    pub rows: Part,
+    pub limits: Part,
+    pub room: usize,
+}
+
 // `distance N MASKSHEX DEPTHSHEX T D`.
 pub struct DistanceCall {
     pub n: usize,
@@ -97,6 +106,7 @@ pub enum Call {
     Held,
     Show,
     Build(BuildCall),
+    Late(LateCall),
     Distance(DistanceCall),
     Equations(EquationsCall),
 }
@@ -117,6 +127,9 @@ fn bytes_call(word: &[u8], line: &[u8], rest: Cursor) -> Call
     }
     if text::same(word, b"build") {
         return calls::read_build(line, rest);
+    }
+    if text::same(word, b"late") {
+        return calls::read_late(line, rest);
     }
     if text::same(word, b"distance") {
         return calls::read_distance(line, rest);

@@ -20,8 +20,8 @@ use Rattle.text.specs.declared.Number.the-variants.{Value, Not}
 use Rattle.text.specs.Places.{headWord, tailWords, sameList}
 use Rattle.text.specs.Numbers.{numberIn, hexBytes}
 use Rattle.text.proofs.Putting.{counted}
-use Rattle.script.specs.Order.{Order, silent, unreadable, askNew, askReport, askGate, askOutput, askEntry, askLimits, askSweep, askAppend, askStore, askHeld, askShow, askBuild, askDistance, askEquations}
-use Rattle.script.specs.Reading.{Rest, onValue, number, limit, isHex, hex, matrixWord, tableWord, kind, noMore, Table, byWord, askOpen, openRest, gateRest, outputRest, entryRest, appendRest, buildRest, distanceRest, equationsRest, bytesCalls, editCalls, calls, orderIn}
+use Rattle.script.specs.Order.{Order, silent, unreadable, askNew, askReport, askGate, askOutput, askEntry, askLimits, askSweep, askAppend, askStore, askHeld, askShow, askBuild, askLate, askDistance, askEquations}
+use Rattle.script.specs.Reading.{Rest, onValue, number, limit, isHex, hex, matrixWord, tableWord, kind, noMore, Table, byWord, askOpen, openRest, gateRest, outputRest, entryRest, appendRest, buildRest, lateRest, distanceRest, equationsRest, bytesCalls, editCalls, calls, orderIn}
 use Rattle.talk.specs.declared.Told.{Told}
 use Rattle.talk.specs.Talk.{Deed, clearing, calling, deedOf, presentBy, presentAfterLine, presentAfterLines, textOf, written, Answers}
 
@@ -108,12 +108,17 @@ open-fits : (t : Bool) (bytes target : List ℕ) (g d a : ℕ) → LimitsFit (li
 open-fits true bytes target g d a h = (h, tt)
 open-fits false bytes target g d a h = (h, tt)
 
--- `open`, `build`, `distance` and `equations`
+-- `open`, `build`, `late`, `distance` and `equations`
 good-open : Good openRest
 good-open = good-hex _ (λ bytes. good-kind _ (λ t. good-hex _ (λ target. three (askOpen t bytes target) (open-fits t bytes target))))
 
 good-build : Good buildRest
 good-build = good-number _ (λ n. good-hex _ (λ rows. good-number _ (λ d. good-number _ (λ room. good-end (askBuild n rows d room) tt))))
+
+good-late : Good lateRest
+good-late =
+    good-number _ (λ n. good-hex _ (λ arrivals. good-hex _ (λ rows. good-hex _ (λ limits. good-number _ (λ room.
+    good-end (askLate n arrivals rows limits room) tt)))))
 
 good-distance : Good distanceRest
 good-distance =
@@ -137,7 +142,7 @@ good-append = good-number _ (λ t. good-number _ (λ a. good-number _ (λ b. goo
 
 -- all calls
 good-bytes : GoodRows bytesCalls
-good-bytes = (good-open, (good-number _ (λ room. good-end (askStore room) (tt, tt)), (good-build, (good-distance, (good-equations, tt)))))
+good-bytes = (good-open, (good-number _ (λ room. good-end (askStore room) (tt, tt)), (good-build, (good-late, (good-distance, (good-equations, tt))))))
 
 good-edits : GoodRows editCalls
 good-edits = (good-gate, (good-output, (good-entry, (three askLimits (λ g d a h. (h, tt)), (good-append, good-bytes)))))

@@ -11,8 +11,6 @@ use Rattle.circuit.specs.Sizes.{mostValues}
 use Rattle.circuit.specs.Gate.{noWords, valueIn}
 use Rattle.stored.specs.declared.Writing.{Writing}
 use Rattle.stored.specs.declared.Writing.the-variants.{Written, NotWritten}
-use Rattle.stored.specs.Stored.{stored}
-use Rattle.builder.specs.Call.{built, buildAnswer}
 use Rattle.drawing.specs.declared.Drawn.{Drawn}
 use Rattle.drawing.specs.Drawing.{drawnCount, drawnAnswer, drawnBytes}
 use Rattle.bench.specs.declared.Bench.{Bench}
@@ -84,6 +82,13 @@ pub record Laid (line room : List ℕ) (p q : Part) (mid end : ℕ) : Type 0 whe
   pub first : take mid room ≡ bytesOf line p
   pub second : take (end - mid) (drop mid room) ≡ bytesOf line q
 
+-- the same, and those of a third part after both
+pub record LaidThree (line room : List ℕ) (p q r : Part) (mid end last : ℕ) : Type 0 where
+  pub two : Laid line room p q mid end
+  pub order : end ≤ last
+  pub inside : last ≤ length room
+  pub third : take (last - end) (drop end room) ≡ bytesOf line r
+
 -- the bytes of one part stand first in a room, `end` of them
 pub record LaidFirst (line room : List ℕ) (p : Part) (end : ℕ) : Type 0 where
   pub counts : Counts end room
@@ -97,9 +102,9 @@ hexMost = 32768
 pub record StoresFirst (b : Bench) (size : ℕ) (r : Writing) (room : List ℕ) : Type 0 where
   pub said : (name : List ℕ) (p : Present) → Stands b p → writtenIn name r room ≡ writtenText name (storeAnswer p size) (storedOf p)
 
--- what was built for a room so long stands first in a room, or the refusal is told
-pub record BuildsFirst (n : ℕ) (ts : List ℕ) (D size : ℕ) (r : Writing) (room : List ℕ) : Type 0 where
-  pub said : (name : List ℕ) → writtenIn name r room ≡ writtenText name (buildAnswer n ts D size) (stored (built n ts D))
+-- bytes stand first in a room as an answer has it, or its refusal is told
+pub record WrittenFirst (answer : Writing) (bytes : List ℕ) (r : Writing) (room : List ℕ) : Type 0 where
+  pub said : (name : List ℕ) → writtenIn name r room ≡ writtenText name answer bytes
 
 -- what was read of a file for a room so long stands first in a room, or the refusal is told
 pub record DrawsFirst (s : List ℕ) (size : ℕ) (r : Drawn) (room : List ℕ) : Type 0 where

@@ -7,6 +7,7 @@ use Rattle.io.specs.Counts.{Counts}
 use Rattle.stored.specs.Stored.{stored}
 use Rattle.distance.specs.Query.{answerOf}
 use Rattle.builder.specs.Call.{built, buildAnswer}
+use Rattle.builder.specs.Late.{lateBuilt, lateAnswer}
 use Rattle.drawing.specs.Drawing.{drawnAnswer, drawnBytes}
 use Rattle.targets.specs.Target.{matrix, table}
 use Rattle.bench.specs.declared.Bench.{Bench}
@@ -16,7 +17,7 @@ use Rattle.bench.specs.Calls.{openAnswer, gateEdit, outputEditAnswer, entryEdit
 use Rattle.bench.specs.Run.{Call, presentFrom}
 use Rattle.bench.specs.Run.Call.{opening, replacing, pointing, changing, limiting, sweeping, appending, reporting, storing}
 use Rattle.listing.specs.Printed.{unreadableText}
-use Rattle.script.specs.Order.{Order, silent, unreadable, askNew, askOpenMatrix, askOpenTable, askReport, askGate, askOutput, askEntry, askLimits, askSweep, askAppend, askStore, askHeld, askShow, askBuild, askDistance, askEquations}
+use Rattle.script.specs.Order.{Order, silent, unreadable, askNew, askOpenMatrix, askOpenTable, askReport, askGate, askOutput, askEntry, askLimits, askSweep, askAppend, askStore, askHeld, askShow, askBuild, askLate, askDistance, askEquations}
 use Rattle.script.specs.Reading.{orderIn}
 use Rattle.talk.specs.declared.Told.{Told}
 use Rattle.talk.specs.Words.{newText, storedName, builtName}
@@ -46,6 +47,7 @@ deedOf (askStore room) = calling (storing (replicate room 0) ∷ [])
 deedOf askHeld = calling []
 deedOf askShow = calling []
 deedOf (askBuild n rows d room) = calling []
+deedOf (askLate n arrivals rows limits room) = calling []
 deedOf (askDistance n masks depths t d) = calling []
 deedOf (askEquations file room) = calling []
 
@@ -76,6 +78,8 @@ textOf p (askStore room) = writtenText storedName (storeAnswer p room) (storedOf
 textOf p askHeld = heldText p
 textOf p askShow = showText p
 textOf p (askBuild n rows d room) = writtenText builtName (buildAnswer n rows d room) (stored (built n rows d))
+textOf p (askLate n arrivals rows limits room) =
+    writtenText builtName (lateAnswer n arrivals rows limits room) (stored (lateBuilt n arrivals rows limits))
 textOf p (askDistance n masks depths t d) = distanceText (answerOf n masks depths t d)
 textOf p (askEquations file room) = drawnText (drawnAnswer file room) (drawnBytes file)
 

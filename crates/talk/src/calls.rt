@@ -1,17 +1,21 @@
 // A function for each call: the call on the bench by value, and its answer said.
 ghost use mathlib.Core.Path.{_≡_};
-ghost use Prim.Native.Nat.{_-_, _≤_};
+ghost use Prim.Native.Nat.{_+_, _-_, _/_, _≤_};
 ghost use lib.ListN.{length, take, drop};
+ghost use Rattle.stored.specs.Stored.{stored};
+ghost use Rattle.builder.specs.Call.{built, buildAnswer};
+ghost use Rattle.builder.specs.Late.{lateBuilt, lateAnswer, BuildsLate};
 ghost use Rattle.distance.specs.Query.{answerOf};
 ghost use Rattle.targets.specs.Target.{targetOf};
+ghost use Rattle.text.specs.Putting.{Put};
 ghost use Rattle.bench.specs.Calls.{OpenPromise};
 ghost use Rattle.bench.specs.State.{limits};
 ghost use Rattle.script.specs.Reading.{askOpen};
-ghost use Rattle.script.specs.Order.{bytesOf, unreadable, askNew, askReport, askGate, askOutput, askEntry, askLimits, askSweep, askAppend, askStore, askHeld, askShow, askBuild, askDistance, askEquations};
-ghost use Rattle.script.specs.Placed.{HexPart, HexParts};
+ghost use Rattle.script.specs.Order.{bytesOf, unreadable, askNew, askReport, askGate, askOutput, askEntry, askLimits, askSweep, askAppend, askStore, askHeld, askShow, askBuild, askLate, askDistance, askEquations};
+ghost use Rattle.script.specs.Placed.{HexPart, HexParts, HexThree};
 ghost use Rattle.talk.specs.Texts.{editText, openText};
 ghost use Rattle.talk.specs.Talk.{Answers};
-ghost use Rattle.talk.specs.Saying.{Said, LaidFirst, Laid, StoresFirst, BuildsFirst, DrawsFirst, storedMost, hexMost};
+ghost use Rattle.talk.specs.Saying.{Said, LaidFirst, Laid, LaidThree, StoresFirst, WrittenFirst, DrawsFirst, storedMost, hexMost};
 use crate::HEX;
 use crate::OUT;
 use crate::STORED;
@@ -40,6 +44,7 @@ use bench::storing::circuit_of;
 use bench::storing::store;
 use bench::sweeping::sweep;
 use builder::build;
+use builder::build_late;
 use drawing::Drawn;
 use report::report;
 use script::AppendEdit;
@@ -48,6 +53,7 @@ use script::DistanceCall;
 use script::EntryEdit;
 use script::EquationsCall;
 use script::GateEdit;
+use script::LateCall;
 use script::LimitsEdit;
 use script::Opening;
 use script::OutputEdit;
@@ -78,18 +84,45 @@ struct Ends {
     end: usize,
 }
 
+// Where the first two of three parts of a room end, and where the third does.
+struct Thirds {
+    mid: usize,
+    end: usize,
+    last: usize,
+}
+
+// The bytes that a part of a line says, from a place in the room on.
+fn lay_at(line: &[u8], p: Part, at: usize, room: &mut [u8]) -> usize
+    requires { ⌜ HexPart (now line) p × (at + (p .to - p .from) / 2 ≤ length (now room)) ⌝ }
+    ensures { λ r. ⌜ Put (now (room .entry)) at (bytesOf (now (line .entry)) p) (now (room .exit)) r ⌝ }
+{
+    let from = p.from;
+    let to = p.to;
+    text::put_unhex(room, at, &line[from..to])
+}
+
 // The bytes that two parts of a line say, one after the other from the start of the room.
 fn lay_two(line: &[u8], p: Part, q: Part, room: &mut [u8]) -> Ends
     requires { ⌜ HexParts (now line) p q × (hexMost ≤ length (now room)) ⌝ }
     ensures { λ r. ⌜ Laid (now (line .entry)) (now (room .exit)) p q (r .mid) (r .end) ⌝ }
 {
-    let from = p.from;
-    let to = p.to;
-    let mid = text::put_unhex(room, 0, &line[from..to]);
-    let next = q.from;
-    let last = q.to;
-    let end = text::put_unhex(room, mid, &line[next..last]);
+    let mid = lay_at(line, p, 0, room);
+    let end = lay_at(line, q, mid, room);
     Ends { mid, end }
+}
+
+// The same with a third part after those two.
+fn lay_three(line: &[u8], p: Part, q: Part, t: Part, room: &mut [u8]) -> Thirds
+    requires { ⌜ HexThree (now line) p q t × (hexMost ≤ length (now room)) ⌝ }
+    ensures { λ r. ⌜ LaidThree (now (line .entry)) (now (room .exit)) p q t (r .mid) (r .end) (r .last) ⌝ }
+{
+    let two = lay_two(line, p, q, room);
+    let last = lay_at(line, t, two.end, room);
+    Thirds {
+        mid: two.mid,
+        end: two.end,
+        last,
+    }
 }
 
 // An open's answer, with the bench after it.
@@ -220,15 +253,13 @@ fn lay_one(line: &[u8], p: Part, room: &mut [u8]) -> usize
     requires { ⌜ HexPart (now line) p × (hexMost ≤ length (now room)) ⌝ }
     ensures { λ r. ⌜ LaidFirst (now (line .entry)) (now (room .exit)) p r ⌝ }
 {
-    let from = p.from;
-    let to = p.to;
-    text::put_unhex(room, 0, &line[from..to])
+    lay_at(line, p, 0, room)
 }
 
 // What is built stands first in the room, lent as it is for a store.
 fn build_in(line: &[u8], q: BuildCall, room: &mut [u8]) -> Writing
     requires { ⌜ HexPart (now line) (q .rows) × (storedMost ≤ length (now room)) ⌝ }
-    ensures { λ r. ⌜ BuildsFirst (q .n) (bytesOf (now (line .entry)) (q .rows)) (q .d) (q .room) r (now (room .exit)) ⌝ }
+    ensures { λ r. ⌜ WrittenFirst (buildAnswer (q .n) (bytesOf (now (line .entry)) (q .rows)) (q .d) (q .room)) (stored (built (q .n) (bytesOf (now (line .entry)) (q .rows)) (q .d))) r (now (room .exit)) ⌝ }
 {
     let part = q.rows;
     let mut rows = [0u8; HEX];
@@ -244,6 +275,42 @@ pub(crate) fn tell_build(b: Bench, line: &[u8], q: BuildCall, out: &mut [u8; OUT
 {
     let mut room = [0u8; STORED];
     let writing = build_in(line, q, &mut room);
+    let len = say_written(out, b"built ", writing, &room);
+    Told { bench: b, len }
+}
+
+// A build over arrivals, rows and limits that stand in three parts of a room.
+fn late_parts(n: usize, lists: &[u8], ends: Thirds, room: &mut [u8]) -> Writing
+    requires { ⌜ (ends .mid ≤ ends .end) × ((ends .end ≤ ends .last) × (ends .last ≤ length (now lists))) ⌝ }
+    ensures { λ r. ⌜ BuildsLate n (take (ends .mid) (now (lists .entry))) (take (ends .end - ends .mid) (drop (ends .mid) (now (lists .entry)))) (take (ends .last - ends .end) (drop (ends .end) (now (lists .entry)))) (now (room .entry)) r (now (room .exit)) ⌝ }
+{
+    let mid = ends.mid;
+    let end = ends.end;
+    let last = ends.last;
+    build_late(n, &lists[..mid], &lists[mid..end], &lists[end..last], room)
+}
+
+// What is built for late signals stands first in the room, lent as it is for a store.
+fn late_in(line: &[u8], q: LateCall, room: &mut [u8]) -> Writing
+    requires { ⌜ HexThree (now line) (q .arrivals) (q .rows) (q .limits) × (storedMost ≤ length (now room)) ⌝ }
+    ensures { λ r. ⌜ WrittenFirst (lateAnswer (q .n) (bytesOf (now (line .entry)) (q .arrivals)) (bytesOf (now (line .entry)) (q .rows)) (bytesOf (now (line .entry)) (q .limits)) (q .room)) (stored (lateBuilt (q .n) (bytesOf (now (line .entry)) (q .arrivals)) (bytesOf (now (line .entry)) (q .rows)) (bytesOf (now (line .entry)) (q .limits)))) r (now (room .exit)) ⌝ }
+{
+    let arrivals = q.arrivals;
+    let rows = q.rows;
+    let limits = q.limits;
+    let mut lists = [0u8; HEX];
+    let ends = lay_three(line, arrivals, rows, limits, &mut lists);
+    let lent = at_most(q.room, STORED);
+    late_parts(q.n, &lists, ends, &mut room[..lent])
+}
+
+// `late N ARRIVALSHEX ROWSHEX LIMITSHEX ROOM`.
+pub(crate) fn tell_late(b: Bench, line: &[u8], q: LateCall, out: &mut [u8; OUT]) -> Told
+    requires { ⌜ HexThree (now line) (q .arrivals) (q .rows) (q .limits) ⌝ }
+    ensures { λ r. ⌜ Answers b (askLate (q .n) (bytesOf (now (line .entry)) (q .arrivals)) (bytesOf (now (line .entry)) (q .rows)) (bytesOf (now (line .entry)) (q .limits)) (q .room)) (now (out .entry)) (now (out .exit)) r ⌝ }
+{
+    let mut room = [0u8; STORED];
+    let writing = late_in(line, q, &mut room);
     let len = say_written(out, b"built ", writing, &room);
     Told { bench: b, len }
 }

@@ -53,8 +53,8 @@ slice-aggregate-same-4 c = search needs
 same-requires-4 : tie.Need-same-requires-4
 same-requires-4 c κs = search needs
 
-read-distance-requires : tie.Need-read-distance-requires
-read-distance-requires c κs = search needs
+read-late-requires : tie.Need-read-late-requires
+read-late-requires c κs = search needs
 
 returns-4 : tie.Need-returns-4
 returns-4 c =
@@ -62,7 +62,7 @@ returns-4 c =
     (is-other (e1 .before .same .ensures) (e1 .if1 .left)
     (is-other (e2 .before .same2 .ensures) (e2 .if2 .left)
     (is-other (e3 .before .same3 .ensures) (e3 .if3 .left)
-    (is-word (c .before .before .same4 .ensures) (c .before .if4 .taken) (c .read-distance .ensures))))) .means
+    (is-word (c .before .before .same4 .ensures) (c .before .if4 .taken) (c .read-late .ensures))))) .means
 
 slice-aggregate-same-5 : tie.Need-slice-aggregate-same-5
 slice-aggregate-same-5 c = search needs
@@ -70,8 +70,8 @@ slice-aggregate-same-5 c = search needs
 same-requires-5 : tie.Need-same-requires-5
 same-requires-5 c κs = search needs
 
-read-equations-requires : tie.Need-read-equations-requires
-read-equations-requires c κs = search needs
+read-distance-requires : tie.Need-read-distance-requires
+read-distance-requires c κs = search needs
 
 returns-5 : tie.Need-returns-5
 returns-5 c =
@@ -80,17 +80,37 @@ returns-5 c =
     (is-other (e2 .before .same2 .ensures) (e2 .if2 .left)
     (is-other (e3 .before .same3 .ensures) (e3 .if3 .left)
     (is-other (e4 .before .same4 .ensures) (e4 .if4 .left)
-    (is-word (c .before .before .same5 .ensures) (c .before .if5 .taken) (c .read-equations .ensures)))))) .means
+    (is-word (c .before .before .same5 .ensures) (c .before .if5 .taken) (c .read-distance .ensures)))))) .means
+
+slice-aggregate-same-6 : tie.Need-slice-aggregate-same-6
+slice-aggregate-same-6 c = search needs
+
+same-requires-6 : tie.Need-same-requires-6
+same-requires-6 c κs = search needs
+
+read-equations-requires : tie.Need-read-equations-requires
+read-equations-requires c κs = search needs
 
 returns-6 : tie.Need-returns-6
 returns-6 c =
-    let e5 = c in let e4 = e5 .before .before .before in let e3 = e4 .before .before .before in let e2 = e3 .before .before .before in let e1 = e2 .before .before .before in
+    let e5 = c .before .before .before .before in let e4 = e5 .before .before .before in let e3 = e4 .before .before .before in let e2 = e3 .before .before .before in let e1 = e2 .before .before .before in
     (is-other (e1 .before .same .ensures) (e1 .if1 .left)
     (is-other (e2 .before .same2 .ensures) (e2 .if2 .left)
     (is-other (e3 .before .same3 .ensures) (e3 .if3 .left)
     (is-other (e4 .before .same4 .ensures) (e4 .if4 .left)
     (is-other (e5 .before .same5 .ensures) (e5 .if5 .left)
-    is-none))))) .means
+    (is-word (c .before .before .same6 .ensures) (c .before .if6 .taken) (c .read-equations .ensures))))))) .means
+
+returns-7 : tie.Need-returns-7
+returns-7 c =
+    let e6 = c in let e5 = e6 .before .before .before in let e4 = e5 .before .before .before in let e3 = e4 .before .before .before in let e2 = e3 .before .before .before in let e1 = e2 .before .before .before in
+    (is-other (e1 .before .same .ensures) (e1 .if1 .left)
+    (is-other (e2 .before .same2 .ensures) (e2 .if2 .left)
+    (is-other (e3 .before .same3 .ensures) (e3 .if3 .left)
+    (is-other (e4 .before .same4 .ensures) (e4 .if4 .left)
+    (is-other (e5 .before .same5 .ensures) (e5 .if5 .left)
+    (is-other (e6 .before .same6 .ensures) (e6 .if6 .left)
+    is-none)))))) .means
 
 pub bytes-call-spec : {M : Type 1} → statement M
 bytes-call-spec =
@@ -110,10 +130,14 @@ bytes-call-spec =
     returns-3
     slice-aggregate-same-4
     same-requires-4
-    read-distance-requires
+    read-late-requires
     returns-4
     slice-aggregate-same-5
     same-requires-5
-    read-equations-requires
+    read-distance-requires
     returns-5
-    returns-6)
+    slice-aggregate-same-6
+    same-requires-6
+    read-equations-requires
+    returns-6
+    returns-7)
