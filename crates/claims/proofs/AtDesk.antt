@@ -8,7 +8,9 @@ use Prim.Native.Nat.{ℕ, _+_}
 use lib.ListN.{length, take}
 use Rattle.circuit.specs.declared.Answer.{Answer}
 use Rattle.circuit.specs.declared.Answer.the-variants.{Done}
+use Rattle.stored.specs.Stored.{stored}
 use Rattle.sweep.specs.Sweep.{swept}
+use Rattle.builder.specs.Late.{lateBuilt, lateAnswer}
 use Rattle.drawing.specs.Drawing.{drawnAnswer, drawnBytes}
 use Rattle.bench.specs.declared.Bench.{Bench}
 use Rattle.bench.specs.declared.Edit.{Edit}
@@ -19,10 +21,11 @@ use Rattle.bench.specs.Run.{Call, presentAfter, Runs}
 use Rattle.bench.proofs.Readers.{Lists}
 use Rattle.bench.proofs.RunLaws.{after-calls}
 use Rattle.bench.proofs.Unique.{one-present}
-use Rattle.script.specs.Order.{Order, askNew, askReport, askGate, askSweep, askAppend, askEquations}
+use Rattle.script.specs.Order.{Order, askNew, askReport, askGate, askSweep, askAppend, askLate, askEquations}
 use Rattle.script.specs.Reading.{orderIn}
 use Rattle.talk.specs.declared.Told.{Told}
-use Rattle.talk.specs.Texts.{acceptedText, reworkedText, reportedText, drawnText}
+use Rattle.talk.specs.Words.{builtName}
+use Rattle.talk.specs.Texts.{acceptedText, reworkedText, reportedText, writtenText, drawnText}
 use Rattle.talk.specs.Talk.{Deed, calling, deedOf, presentBy, presentAfterLines, textOf, written, callsTyped, Answers}
 use Rattle.talk.proofs.Sessions.{Session, session-from-empty, sessions-go-on}
 use Rattle.talk.proofs.Typed as typed
@@ -120,6 +123,11 @@ module _ {lines : List (List ℕ)} {text : List ℕ} {b : Bench} (session : Sess
     -- and so does a line that makes no call: one that is not readable, a remark, and one that only looks.
     pub no-call-leaves : deedOf (orderIn line) ≡ calling [] → r .bench ≡ b
     no-call-leaves e = leaves (calling []) e ∙ sym (stands .is)
+
+    -- `late` writes the stored program of a build with late signals, or the refusal, and leaves the bench.
+    pub late-line-writes : (n : ℕ) (ar ts ds : List ℕ) (room : ℕ) → orderIn line ≡ askLate n ar ts ds room
+        → (bytes ≡ writtenText builtName (lateAnswer n ar ts ds room) (stored (lateBuilt n ar ts ds))) × (r .bench ≡ b)
+    late-line-writes n ar ts ds room e = (says (askLate n ar ts ds room) e, no-call-leaves (ap deedOf e))
 
     -- `equations` writes the stored circuit of the file, or the refusal with its place, and leaves the bench.
     pub equations-writes : (file : List ℕ) (room : ℕ) → orderIn line ≡ askEquations file room → (bytes ≡ drawnText (drawnAnswer file room) (drawnBytes file)) × (r .bench ≡ b)

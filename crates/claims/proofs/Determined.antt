@@ -6,7 +6,7 @@
 --   stored:   reader::read, restore::writing_code
 --   sweep:    sweep
 --   distance: distance, distance_no, refusal_no, table::cost
---   builder:  plan
+--   builder:  plan, plan_late
 --   formula:  text::{byte_at, span, scan}, names::{low_key, high_key, few_names, look_up}, emit::{gates_in, new_line}, and, in the first half of its
 --             promise, text::sees
 --   sheet:    read_file
@@ -22,6 +22,8 @@
 --   | distance table::take_in, table::fill                     | take-in-determined, fill-determined               |
 --   | builder build                                            | build-determined                                  |
 --   | builder build_no, linked::allpawasi_build                | build-number-determined                           |
+--   | builder build_late                                       | late-determined                                   |
+--   | builder build_late_no, linked::allpawasi_build_late      | late-number-determined                            |
 --   | formula emit::{clear, add_gate, add_not}                 | gates-determined                                  |
 --   | formula emit::use_line                                   | use-line-determined                               |
 --   | formula levels::read_or                                  | formula-determined                                |
@@ -55,6 +57,7 @@ use Rattle.distance.specs.Base.{Line}
 use Rattle.distance.specs.Table.{TakenIn, Filled}
 use Rattle.distance.proofs.Unique as distances
 use Rattle.builder.specs.Call.{Builds, BuildsNumbered}
+use Rattle.builder.specs.Late.{BuildsLate, BuildsLateNumbered}
 use Rattle.builder.proofs.Promise as building
 use Rattle.formula.specs.declared.Gates.{Gates}
 use Rattle.formula.specs.declared.Tip.{Tip}
@@ -112,6 +115,14 @@ build-determined = building.build-unique
 pub build-number-determined : (n : ℕ) (ts : List ℕ) (D : ℕ) (room : List ℕ) (r s : ℕ) (out last : List ℕ) → BuildsNumbered n ts D room r out
     → BuildsNumbered n ts D room s last → (r ≡ s) × (out ≡ last)
 build-number-determined = building.numbered-unique
+
+pub late-determined : (n : ℕ) (ar ts ds room : List ℕ) (r s : Writing) (out last : List ℕ) → BuildsLate n ar ts ds room r out → BuildsLate n ar ts ds room s last
+    → (r ≡ s) × (out ≡ last)
+late-determined = building.late-unique
+
+pub late-number-determined : (n : ℕ) (ar ts ds room : List ℕ) (r s : ℕ) (out last : List ℕ) → BuildsLateNumbered n ar ts ds room r out
+    → BuildsLateNumbered n ar ts ds room s last → (r ≡ s) × (out ≡ last)
+late-number-determined = building.late-numbered-unique
 
 -- gates in three rows that are lent, and what is known of them
 pub gates-determined : (rows last : List (List ℕ)) (r s : Tip) (x : Gates) → length rows ≡ 3 → length last ≡ 3 → gatesAt rows r ≡ x → gatesAt last s ≡ x

@@ -36,8 +36,8 @@ use Rattle.distance.specs.Distance.{Gap, gates, never, distance, can, gapFrom}
 use Rattle.distance.specs.Query.{lookAt, answered, answerOf, distanceNo, distanceCode, queryRefusalNo, whereSound}
 use Rattle.distance.proofs.Refuse.{fit}
 use Rattle.builder.specs.Call.{built, refusal, buildAnswer, Builds, BuildsNumbered}
-use Rattle.builder.proofs.Refusals as building
-use Rattle.builder.proofs.Promise.{built-few, built-outs}
+use Rattle.builder.specs.Late.{lateBuilt, lateRefusal, lateAnswer, BuildsLate, BuildsLateNumbered}
+use Rattle.builder.proofs.Theorems as building
 use Rattle.drawing.specs.declared.Drawn.the-variants.{BadText, BadName, NoOutputs}
 use Rattle.drawing.specs.Drawing.{drawnNo}
 use Rattle.targets.specs.Target.{Target, isMatrix}
@@ -55,8 +55,8 @@ use Rattle.coded.specs.declared.EditNumbers.{EditNumbers}
 use Rattle.coded.specs.declared.ReportNumbers.{ReportNumbers}
 use Rattle.coded.specs.Coded.{reportedCode, OpenCode, GateCode, OutputCode, EntryCode, LimitsCode, SweepCode, AppendCode, ReportCodePromise, StoreCode}
 use Rattle.claims.proofs.Causes.{first, accepted, GivenExactly, none-left}
-use Rattle.claims.proofs.Tables.{OutOfRange, readTable, openTable, replaceTable, appendTable, pointTable, changeTable, openOnly, storeTable, buildTable, distanceTable, callNo, callTable}
-use Rattle.claims.proofs.Following.{range-law, done-last, read-law, open-law, replace-law, append-law, sweep-law, point-law, change-law, limits-law, report-law, write-law, store-law, room-then, room-last, build-law, distance-law}
+use Rattle.claims.proofs.Tables.{OutOfRange, readTable, openTable, replaceTable, appendTable, pointTable, changeTable, openOnly, storeTable, buildTable, lateTable, distanceTable, callNo, callTable}
+use Rattle.claims.proofs.Following.{range-law, done-last, read-law, open-law, replace-law, append-law, sweep-law, point-law, change-law, limits-law, report-law, write-law, store-law, room-then, room-last, build-law, late-law, distance-law}
 
 -- ---- The numbers given back: 1 to 13 and 18, one for each refusal.
 
@@ -210,6 +210,13 @@ restore-numbered only s room r out h =
         by Done q e = let w = whole only s q in omega (arith, written-size (leb (length s) (length room)) (length s) k e, w .m-most, w .g-most, w .long)
         by (Refused w) q e = let z : _≡_ {A = ℕ} 0 1 = cc in absurd (omega arith)
 
+-- a circuit that passes the rules is stored in fewer bytes than 65,536
+written-below : (a : Answer) (c : Listing) → (a ≡ Done → listingAnswer true c ≡ Done) → (room k : ℕ) → intoRoom a (length (stored c)) room ≡ Written k → k < 65536
+written-below Done c sound room k e =
+    let f = shape-is _ _ _ (circuit-fits true c (sound refl) .shaped-true) in
+    omega (arith, written-size (leb (length (stored c)) room) (length (stored c)) k e, stored-length c, f .m-most, f .g-most)
+written-below (Refused w) c sound room k e = let z : _≡_ {A = ℕ} 0 1 = cc in absurd (omega arith)
+
 -- Build: 1, 8, 9, 10, 11.
 pub build-numbers : (n : ℕ) (ts : List ℕ) (D : ℕ) (room : List ℕ) (r : Writing) (out : List ℕ) → Builds n ts D room r out
     → GivenExactly (writingNo r) (buildTable n ts D (length room))
@@ -223,18 +230,24 @@ pub build-numbered : (n : ℕ) (ts : List ℕ) (D : ℕ) (room : List ℕ) (r : 
     → NumberedRoom r (buildTable n ts D (length room)) room out
 unfolding buildAnswer
 build-numbered n ts D room r out h =
-    let a = buildAnswer n ts D (length room) in
-    numbered-room a small r (buildTable n ts D (length room)) (stored (built n ts D)) room out (h .answer) (h .bytes) (build-law n ts D (length room))
-  where
-    small : (k : ℕ) → buildAnswer n ts D (length room) ≡ Written k → k < 65536
-    small k e = by (refusal n ts D) refl e
-      where
-        by : (a : Answer) → refusal n ts D ≡ a → intoRoom a (length (stored (built n ts D))) (length room) ≡ Written k → k < 65536
-        by Done q e =
-            let c = built n ts D in
-            let few = shape-is n (length ts) 0 (building.accepted n ts D q .shape) .m-most in
-            omega (arith, written-size (leb (length (stored c)) (length room)) (length (stored c)) k e, stored-length c, built-few n ts D, built-outs n ts D, few)
-        by (Refused w) q e = let z : _≡_ {A = ℕ} 0 1 = cc in absurd (omega arith)
+    numbered-room (buildAnswer n ts D (length room)) (written-below (refusal n ts D) (built n ts D) (building.sound-circuit n ts D) (length room)) r
+    (buildTable n ts D (length room)) (stored (built n ts D)) room out (h .answer) (h .bytes) (build-law n ts D (length room))
+
+-- Build with late signals: 1, 2, 8, 9, 10, 11.
+pub late-numbers : (n : ℕ) (ar ts ds room : List ℕ) (r : Writing) (out : List ℕ) → BuildsLate n ar ts ds room r out
+    → GivenExactly (writingNo r) (lateTable n ar ts ds (length room))
+late-numbers n ar ts ds room r out h =
+    subst (λ (a : Writing). GivenExactly (writingNo a) (lateTable n ar ts ds (length room))) (sym (h .answer)) (late-law n ar ts ds (length room))
+
+pub late-refused : (n : ℕ) (ar ts ds room : List ℕ) (w : Refusal) (out : List ℕ) → BuildsLate n ar ts ds room (NotWritten w) out → out ≡ room
+late-refused n ar ts ds room w out h = left-alone (stored (lateBuilt n ar ts ds)) (h .answer) (h .bytes)
+
+pub late-numbered : (n : ℕ) (ar ts ds room : List ℕ) (r : ℕ) (out : List ℕ) → BuildsLateNumbered n ar ts ds room r out
+    → NumberedRoom r (lateTable n ar ts ds (length room)) room out
+unfolding lateAnswer
+late-numbered n ar ts ds room r out h =
+    numbered-room (lateAnswer n ar ts ds (length room)) (written-below (lateRefusal n ar ts ds) (lateBuilt n ar ts ds) (building.late-sound n ar ts ds) (length room)) r
+    (lateTable n ar ts ds (length room)) (stored (lateBuilt n ar ts ds)) room out (h .answer) (h .bytes) (late-law n ar ts ds (length room))
 
 -- Distance: 1, 2, 8, 9. No distance is not a refusal.
 pub distance-numbers : (n : ℕ) (ms ds : List ℕ) (t D : ℕ) (r : Distance) → r ≡ answerOf n ms ds t D → GivenExactly (distanceNo r) (distanceTable n ms ds t D)

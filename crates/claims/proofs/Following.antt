@@ -6,13 +6,13 @@ use mathlib.Core.List.{List, [], _∷_, map}
 use Prim.Native.Nat.{ℕ, zero, suc, _+_, _*_, _^_, _≤_, _<_}
 use native.Mathlib.Nat.{add-zero}
 use native.Mathlib.Omega.{arith}
-use borrow.Author.Tests.{leb-true}
+use borrow.Author.Tests.{leb-true, eqb-true}
 use lib.Dec.{leb, eqb}
 use lib.ListN.{length, getD, drop}
 use lib.Seq.{getD-drop, drop-drop}
 use Rattle.circuit.specs.declared.Refusal.{Refusal}
 use Rattle.circuit.specs.declared.Circuit.{Circuit}
-use Rattle.circuit.specs.declared.Refusal.the-variants.{Shape, Length, Mark, UnknownKind, Operand, NotXor, Target as BadTarget, NoRoom, NotThere, Full}
+use Rattle.circuit.specs.declared.Refusal.the-variants.{Shape, Length, Mark, UnknownKind, Operand, NotXor, Target as BadTarget, TooDeep, TooShallow, NoRoom, NotThere, Full}
 use Rattle.circuit.specs.declared.Answer.{Answer}
 use Rattle.circuit.specs.declared.Answer.the-variants.{Done, Refused}
 use Rattle.circuit.specs.Gate.{kindOf, allowed}
@@ -33,16 +33,18 @@ use Rattle.stored.proofs.Records.{records-length}
 use Rattle.distance.specs.declared.Refusal.the-variants.{Inputs, Lists, Mask, Depth}
 use Rattle.distance.specs.declared.Looked.{Looked}
 use Rattle.distance.specs.declared.Looked.the-variants.{Sound as Looks}
-use Rattle.distance.specs.Base.{baseOf, weight}
+use Rattle.distance.specs.Base.{baseOf, weight, load}
 use Rattle.distance.specs.Distance.{Gap, gates, never, distance}
 use Rattle.distance.specs.Query.{anyFrom, badLists, badMask, badDepth, refuse, lookAt, answered, answerOf, distanceNo, whereSound}
+use Rattle.builder.specs.Rule.{rowsOf}
 use Rattle.builder.specs.Call.{built, badRow, tooHeavy, refusal, buildAnswer}
+use Rattle.builder.specs.Late.{lateBuilt, listsFit, anyDeep, tooLate, lateRefusal, lateAnswer}
 use Rattle.targets.specs.Target.{Target, matrix, table, isMatrix, rowFits, entryFits, targetFits}
 use Rattle.bench.specs.State.{Present, nothing, present}
 use Rattle.bench.specs.Calls.{openAnswer, gateEditAnswer, outputEditAnswer, entryAnswer, entryEditAnswer, limitsAnswer, sweepEdit, appendAnswer, reported, storeAnswer}
 use Rattle.coded.specs.Coded.{reportedCode}
 use Rattle.claims.proofs.Causes.{first, accepted, GivenExactly, Some, none-left, Tells, Fails, tells-as, fails-as, fails-where-not, not-fails, not-tells, tells-or, tells-lt, tells-le, tells-eq, fails-and, fails-lt, fails-le, tells-some, chain-under, chain, chain-on}
-use Rattle.claims.proofs.Tables.{OutOfRange, BadOperand, gateTable, BadRow, BrokenTarget, recordsTable, gateRecordTable, outRecordTable, bodyTable, readTable, openTable, openedTable, replaceTable, appendTable, pointTable, entryCauses, changeTable, openOnly, storeTable, buildTable, distanceTable}
+use Rattle.claims.proofs.Tables.{OutOfRange, BadOperand, gateTable, BadRow, BrokenTarget, recordsTable, gateRecordTable, outRecordTable, bodyTable, readTable, openTable, openedTable, replaceTable, appendTable, pointTable, entryCauses, changeTable, openOnly, storeTable, buildTable, LateRow, lateTable, distanceTable}
 
 pub range-law : (n m g : ℕ) → Fails (shaped n m g) (OutOfRange n m g)
 unfolding shaped
@@ -363,6 +365,45 @@ build-law n ts D room =
     let size = length (stored (built n ts D)) in
     subst (λ (no : ℕ). GivenExactly no (buildTable n ts D room)) (room-then (refusal n ts D) size room)
     (test _ _ _ (range-law n (length ts) 0) (test _ _ _ (not-fails (tells-some (row-tells n) ts)) (test _ _ _ (fails-le D 15) (test _ _ _ (not-fails (tells-some (heavy-tells n D) ts)) (room-last size room)))))
+
+-- where the lists are equally long: a row is too late
+pub late-tells : (n : ℕ) (ar ts ds : List ℕ) → length ds ≡ length ts → Tells (anyOf (map (tooLate n ar) (rowsOf ts ds))) (LateRow n ar ts ds)
+late-tells n ar [] ds e = record { holds = λ h. absurd (true≢false (sym h)); not-else = λ h s. absurd (omega (arith, s .1 .0)) }
+late-tells n ar (t ∷ ts) [] e = absurd (omega arith)
+late-tells n ar (t ∷ ts) (d ∷ ds) e = tells-as into out (tells-or (tells-lt (2 ^ d) (load n ar t)) (late-tells n ar ts ds (omega arith)))
+  where
+    into : (2 ^ d < load n ar t) ⊎ LateRow n ar ts ds → LateRow n ar (t ∷ ts) (d ∷ ds)
+    into (inl p) = (0, (omega arith, p))
+    into (inr s) = (suc (s .0), (omega (arith, s .1 .0), s .1 .1))
+
+    out : LateRow n ar (t ∷ ts) (d ∷ ds) → (2 ^ d < load n ar t) ⊎ LateRow n ar ts ds
+    out (zero, h) = inl (h .1)
+    out (suc i, h) = inr (i, (omega (arith, h .0), h .1))
+
+pub lists-law : (n : ℕ) (ar ts ds : List ℕ) → Fails (listsFit n ar ts ds) ((length ar ≡ n → ⊥) ⊎ (length ds ≡ length ts → ⊥))
+lists-law n ar ts ds = fails-and (fails-where-not (tells-eq (length ar) n)) (fails-where-not (tells-eq (length ds) (length ts)))
+
+pub deep-tells : (ds : List ℕ) → Tells (anyDeep ds) (Some (λ (d : ℕ). 15 < d) ds)
+deep-tells ds = tells-some (tells-lt 15) ds
+
+pub late-law : (n : ℕ) (ar ts ds : List ℕ) (room : ℕ) → GivenExactly (writingNo (lateAnswer n ar ts ds room)) (lateTable n ar ts ds room)
+unfolding lateAnswer lateRefusal
+late-law n ar ts ds room =
+    let size = length (stored (lateBuilt n ar ts ds)) in
+    let next = unless (leb size room) NoRoom Done in
+    let fourth = unless (not (anyOf (map (tooLate n ar) (rowsOf ts ds)))) TooShallow Done in
+    let third = unless (not (anyDeep ar || anyDeep ds)) TooDeep fourth in
+    let second = unless (not (anyOf (map (badRow n) ts))) BadTarget third in
+    subst (λ (no : ℕ). GivenExactly no (lateTable n ar ts ds room)) (room-then (lateRefusal n ar ts ds) size room)
+    (test _ _ _ (range-law n (length ts) 0)
+    (chain-under (λ t. answerNo (andThen (unless t Length second) next)) (lists-law n ar ts ds)
+    (λ fit. let equal = eqb-true (length ds) (length ts) (all-true (eqb (length ar) n) fit) in
+    test _ _ _ (not-fails (tells-some (row-tells n) ts))
+    (test _ _ _ (not-fails (tells-or (deep-tells ar) (deep-tells ds))) (test _ _ _ (not-fails (late-tells n ar ts ds equal)) (room-last size room))))))
+  where
+    all-true : (x : Bool) {y : Bool} → (x && y) ≡ true → y ≡ true
+    all-true true e = e
+    all-true false e = absurd (true≢false (sym e))
 
 pub distance-law : (n : ℕ) (ms ds : List ℕ) (t D : ℕ) → GivenExactly (distanceNo (answerOf n ms ds t D)) (distanceTable n ms ds t D)
 unfolding answerOf lookAt

@@ -32,18 +32,19 @@ use Rattle.distance.specs.declared.Looked.{Looked}
 use Rattle.distance.specs.declared.Looked.the-variants.{Sound as Looks, Unsound}
 use Rattle.distance.specs.declared.Answer.{Answer as Distance}
 use Rattle.distance.specs.declared.Answer.the-variants.{Gates, Never}
-use Rattle.distance.specs.Base.{Line, Xor, baseOf, inputs, run, weight, Small, Program, Fewest, SetOf, Smallest}
+use Rattle.distance.specs.Base.{Line, Xor, baseOf, inputs, arriving, run, weight, Small, Program, Fewest, SetOf, Smallest}
 use Rattle.distance.specs.Distance.{gates, never, distance}
 use Rattle.distance.specs.Query.{lookAt, answered, answerOf, distanceNo, queryRefusalNo, whereSound}
 use Rattle.distance.proofs.Theorems as distances
-use Rattle.builder.specs.Rule.{lowest, sum, taken, xorGate, greedyCircuit}
-use Rattle.builder.specs.Call.{within, built, badRow, tooHeavy, refusal, buildAnswer, Builds}
-use Rattle.builder.specs.Matrix.{Computes}
-use Rattle.builder.proofs.Refusals.{accepted, fit}
-use Rattle.builder.proofs.Promise.{built-inputs, built-outs}
-use Rattle.builder.proofs.Begin.{inputs-length}
+use Rattle.builder.specs.Rule.{rowsOf, lowest, sum, taken, xorGate, greedyCircuit}
+use Rattle.builder.specs.Call.{within, built, badRow, refusal, buildAnswer, Builds}
+use Rattle.builder.specs.Late.{lateBuilt, lateRefusal, lateAnswer, BuildsLate}
+use Rattle.builder.specs.Matrix.{Computes, ComputesLate, depthFrom}
+use Rattle.builder.proofs.Refusals.{Ahead, accepted, looking}
+use Rattle.builder.proofs.Promise.{late-inputs, late-outs, late-few, Put}
+use Rattle.builder.proofs.Begin.{arriving-length}
 use Rattle.builder.proofs.Values.{lines-whole}
-use Rattle.builder.proofs.Solved.{sound-circuit}
+use Rattle.builder.proofs.AsLate.{atOnce, alike}
 use Rattle.builder.proofs.Theorems as building
 use Rattle.targets.specs.Target.{matrix, table, wants}
 use Rattle.bench.specs.declared.Bench.{Bench}
@@ -59,8 +60,8 @@ use Rattle.bench.specs.Run.Call.{opening}
 use Rattle.bench.proofs.RunLaws.{report-after-calls, opens, opens-as}
 use Rattle.report.proofs.PassLaws.{Right, FirstWrong, pass-right, right-pass, wrong-first, first-wrong}
 use Rattle.claims.proofs.Causes.{Some, Tells, tells-some, passes, silent}
-use Rattle.claims.proofs.Tables.{OutOfRange, BadRow, BrokenTarget}
-use Rattle.claims.proofs.Following.{range-law, target-law, row-tells, heavy-tells}
+use Rattle.claims.proofs.Tables.{OutOfRange, BadRow, BrokenTarget, LateRow}
+use Rattle.claims.proofs.Following.{range-law, target-law, row-tells, heavy-tells, deep-tells, late-tells}
 
 -- ---- What a matrix asks of an output: the inputs that the row has, summed modulo 2.
 
@@ -140,7 +141,77 @@ module _ (n : ℕ) (ms ds : List ℕ) (t D : ℕ) (r : Distance) (meets : r ≡ 
   pub query-none : (r ≡ Never) ↔ ((h : ℕ) → Program (baseOf ms ds) h t D → ⊥)
   query-none = let q = distances.query-never n ms ds t D looks in (λ e. q .0 (sym meets ∙ e), λ f. meets ∙ q .1 f)
 
--- ---- The builder.
+-- ---- The builder, with late signals: each input has an arrival depth, each row a depth limit.
+
+-- what a program built for a matrix, from inputs with these arrivals and within these limits, is
+pub record LateRight (n : ℕ) (ar ts ds : List ℕ) (c : Listing) : Type 0 where
+  -- it has the matrix's inputs and outputs,
+  pub inputs-are : c .inputs ≡ n
+  pub outputs-are : length (c .outs) ≡ length ts
+  -- XOR gates only,
+  pub only-xor : (k : ℕ) → gateAt c k .kind ≡ 0
+  -- computes the matrix on all inputs,
+  pub computes : (x j : ℕ) → j < length ts → outputOn c x j ≡ onesIn n (getD ts j 0) x % 2
+  -- has each output at its row's limit or less, counted from the arrivals, and AND depth 0,
+  pub in-time : (j : ℕ) → j < length ts → depthFrom ar c j ≤ getD ds j 0
+  pub linear : andDepthOf c ≡ 0
+  -- and has at most the sum over rows of (weight - 1) gates, 224 at most.
+  pub few : length (c .gates) ≤ sum (map (λ (t : ℕ). weight n t - 1) ts)
+  pub fits : length (c .gates) ≤ 224
+
+module _ (n : ℕ) (ar ts ds : List ℕ) where
+  -- The builder follows the published greedy rule: its gates are those that the rule takes, and each output names its row's lowest line within the row's limit.
+  pub late-follows-rule : lateBuilt n ar ts ds ≡ listing n (map xorGate (taken (arriving n ar) (rowsOf ts ds))) (map (lowest (run (arriving n ar) (taken (arriving n ar) (rowsOf ts ds)))) (rowsOf ts ds))
+  unfolding lateBuilt greedyCircuit
+  late-follows-rule = refl
+
+  no-and-depth : andDepthOf (lateBuilt n ar ts ds) ≡ 0
+  unfolding lateBuilt greedyCircuit
+  no-and-depth =
+      let first = arriving n ar in
+      let gs = taken first (rowsOf ts ds) in
+      let c = greedyCircuit n first (rowsOf ts ds) in
+      let e = ap (λ (l : List ℕ). lines andStep 0 l (gateAt c) (length (map xorGate gs))) (flat n) ∙ lines-whole (λ (l : Line). 0) andStep 0 refl (λ k g x y. refl) first gs in
+      omega (arith, greatest-read (andDepths n (gateAt c) (length (c .gates))) 0 (λ i. omega (arith, ap (λ (l : List ℕ). getD l i 0) e, zero-at (run first gs) i)) (c .outs))
+    where
+      zero-at : (ls : List Line) (i : ℕ) → _≡_ {A = ℕ} (getD (map (λ (l : Line). 0) ls) i 0) 0
+      zero-at [] i = refl
+      zero-at (l ∷ ls) zero = refl
+      zero-at (l ∷ ls) (suc i) = zero-at ls i
+
+      flat : (n : ℕ) → replicate {A = ℕ} n 0 ≡ map (λ (l : Line). 0) (arriving n ar)
+      flat n = ap (λ (k : ℕ). replicate {A = ℕ} k 0) (sym (arriving-length n ar)) ∙ level (arriving n ar)
+        where
+          level : (ls : List Line) → replicate {A = ℕ} (length ls) 0 ≡ map (λ (l : Line). 0) ls
+          level [] = refl
+          level (l ∷ ls) = ap (λ (xs : List ℕ). 0 ∷ xs) (level ls)
+
+  pub late-right : lateRefusal n ar ts ds ≡ Done → LateRight n ar ts ds (lateBuilt n ar ts ds)
+  late-right ok =
+      record {
+        inputs-are = late-inputs n ar ts ds;
+        outputs-are = late-outs n ar ts ds (sym (accepted n ar ts ds ok .ahead .limits));
+        only-xor = building.late-only-xor n ar ts ds ok;
+        computes = λ x j h. building.late-matrix n ar ts ds ok x j h ∙ row-sum n (getD ts j 0) x;
+        in-time = building.late-within n ar ts ds ok;
+        linear = no-and-depth;
+        few = building.late-few-gates n ar ts ds ok;
+        fits = late-few n ar ts ds;
+      }
+
+-- ---- The builder of 01: all inputs are there at depth 0, and D is the limit of every row.
+
+-- It is that case of the call above: arrivals 0, and D for each row.
+module _ (n : ℕ) (ts : List ℕ) (D : ℕ) (room : List ℕ) (r : Writing) (out : List ℕ) where
+  pub old-is-late : Builds n ts D room r out ↔ BuildsLate n (atOnce n) ts (alike D ts) room r out
+  unfolding buildAnswer lateAnswer
+  old-is-late =
+      let e = building.as-late n ts D in
+      let a : buildAnswer n ts D (length room) ≡ lateAnswer n (atOnce n) ts (alike D ts) (length room) = λ i. intoRoom (e .0 i) (length (stored (e .1 i))) (length room) in
+      let b : roomAfter (buildAnswer n ts D (length room)) (stored (built n ts D)) room ≡ roomAfter (lateAnswer n (atOnce n) ts (alike D ts) (length room)) (stored (lateBuilt n (atOnce n) ts (alike D ts))) room = λ i. roomAfter (a i) (stored (e .1 i)) room in (
+        λ h. record { answer = h .answer ∙ a; bytes = h .bytes ∙ b },
+        λ h. record { answer = h .answer ∙ sym a; bytes = h .bytes ∙ sym b },
+      )
 
 -- what a program built for a matrix within depth D is
 pub record BuiltRight (n : ℕ) (ts : List ℕ) (D : ℕ) (c : Listing) : Type 0 where
@@ -164,75 +235,131 @@ module _ (n : ℕ) (ts : List ℕ) (D : ℕ) where
   unfolding built greedyCircuit
   follows-rule = refl
 
-  module _ (ok : refusal n ts D ≡ Done) where
-    no-and-depth : andDepthOf (built n ts D) ≡ 0
-    unfolding built greedyCircuit
-    no-and-depth =
-        let e = ap (λ (l : List ℕ). lines andStep 0 l (gateAt (greedyCircuit n (inputs n) (within D ts))) (length (map xorGate (taken (inputs n) (within D ts))))) (flat n)
-        ∙ lines-whole (λ (l : Line). 0) andStep 0 refl (λ k g x y. refl) (inputs n) (taken (inputs n) (within D ts)) in
-        omega (arith, greatest-read (andDepths n (gateAt (built n ts D)) (length (built n ts D .gates))) 0 (λ i. omega (arith, ap (λ (l : List ℕ). getD l i 0) e, zero-at (run (inputs n) (taken (inputs n) (within D ts))) i)) (built n ts D .outs))
-      where
-        zero-at : (ls : List Line) (i : ℕ) → _≡_ {A = ℕ} (getD (map (λ (l : Line). 0) ls) i 0) 0
-        zero-at [] i = refl
-        zero-at (l ∷ ls) zero = refl
-        zero-at (l ∷ ls) (suc i) = zero-at ls i
+  pub built-right : refusal n ts D ≡ Done → BuiltRight n ts D (built n ts D)
+  built-right ok =
+      let e = building.as-late n ts D in
+      let r = subst (LateRight n (atOnce n) ts (alike D ts)) (sym (e .1)) (late-right n (atOnce n) ts (alike D ts) (sym (e .0) ∙ ok)) in
+      record {
+        inputs-are = r .inputs-are;
+        outputs-are = r .outputs-are;
+        only-xor = r .only-xor;
+        computes = r .computes;
+        shallow = building.depth-within n ts D ok;
+        linear = r .linear;
+        few = r .few;
+        fits = r .fits;
+      }
 
-        flat : (n : ℕ) → replicate {A = ℕ} n 0 ≡ map (λ (l : Line). 0) (inputs n)
-        flat n = ap (λ (k : ℕ). replicate {A = ℕ} k 0) (sym (inputs-length n)) ∙ level (inputs n)
-          where
-            level : (ls : List Line) → replicate {A = ℕ} (length ls) 0 ≡ map (λ (l : Line). 0) ls
-            level [] = refl
-            level (l ∷ ls) = ap (λ (xs : List ℕ). 0 ∷ xs) (level ls)
+-- ---- What a build writes, where it writes: the stored bytes of that program first in the lent room; the rest stays.
 
-    pub built-right : BuiltRight n ts D (built n ts D)
-    built-right =
-        record {
-          inputs-are = built-inputs n ts D;
-          outputs-are = built-outs n ts D;
-          only-xor = building.only-xor n ts D ok;
-          computes = λ x j h. building.computes-matrix n ts D ok x j h ∙ row-sum n (getD ts j 0) x;
-          shallow = building.depth-within n ts D ok;
-          linear = no-and-depth;
-          few = building.few-gates n ts D ok;
-          fits = building.it-fits n ts D ok;
-        }
+-- what each build promises of the room, by its answer ahead of the room and by its circuit
+builds-put : {n : ℕ} {ts : List ℕ} {D : ℕ} {room : List ℕ} {r : Writing} {out : List ℕ} → Builds n ts D room r out → Put (refusal n ts D) (built n ts D) room r out
+unfolding buildAnswer
+builds-put h = record { answer = h .answer; bytes = h .bytes }
 
--- What `build` writes, where it writes: the stored bytes of that program first in the lent room; the rest stays.
-module _ (n : ℕ) (ts : List ℕ) (D : ℕ) (room : List ℕ) (k : ℕ) (out : List ℕ) (h : Builds n ts D room (Written k) out) where
+late-put : {n : ℕ} {ar ts ds room : List ℕ} {r : Writing} {out : List ℕ} → BuildsLate n ar ts ds room r out → Put (lateRefusal n ar ts ds) (lateBuilt n ar ts ds) room r out
+unfolding lateAnswer
+late-put h = record { answer = h .answer; bytes = h .bytes }
+
+module _ (a : Answer) (c : Listing) (room : List ℕ) where
   abbrev bytes : List ℕ
-  bytes = stored (built n ts D)
+  bytes = stored c
 
-  nothing-refused : refusal n ts D ≡ Done
-  unfolding buildAnswer
-  nothing-refused = by (refusal n ts D) (h .answer)
+  module _ (k : ℕ) (out : List ℕ) (h : Put a c room (Written k) out) where
+    nothing-refused : a ≡ Done
+    nothing-refused = by a (h .answer)
+      where
+        by : (a : Answer) → Written k ≡ intoRoom a (length bytes) (length room) → a ≡ Done
+        by Done e = refl
+        by (Refused w) e = let z : _≡_ {A = ℕ} 0 1 = cc in absurd (omega arith)
+
+    size-is : length bytes ≡ k
+    size-is = by (leb (length bytes) (length room)) (h .answer ∙ ap (λ (a : Answer). intoRoom a (length bytes) (length room)) nothing-refused)
+      where
+        by : (t : Bool) → Written k ≡ cond t (Written (length bytes)) (NotWritten NoRoom) → length bytes ≡ k
+        by true e = cc
+        by false e = let z : _≡_ {A = ℕ} 0 1 = cc in absurd (omega arith)
+
+    room-is : out ≡ bytes ++ drop (length bytes) room
+    room-is = h .bytes ∙ sym (ap (λ (a : Writing). roomAfter a bytes room) (h .answer))
+
+    writes : (take k out ≡ bytes) × (drop k out ≡ drop k room)
+    writes = (
+      ap (take k) room-is ∙ take-at bytes (drop (length bytes) room) k size-is,
+      ap (drop k) room-is ∙ drop-at bytes (drop (length bytes) room) k size-is ∙ ap (λ (j : ℕ). drop j room) size-is,
+    )
+
+  -- 10 is answered where it is the answer ahead of the room
+  answered-so : (r : Writing) (out : List ℕ) → Put a c room r out → (r ≡ NotWritten TooShallow) ↔ (a ≡ Refused TooShallow)
+  answered-so r out h = (λ e. by a (sym (h .answer) ∙ e), λ e. h .answer ∙ ap (λ (a : Answer). intoRoom a (length bytes) (length room)) e)
     where
-      by : (a : Answer) → Written k ≡ intoRoom a (length bytes) (length room) → a ≡ Done
-      by Done e = refl
-      by (Refused w) e = let z : _≡_ {A = ℕ} 0 1 = cc in absurd (omega arith)
+      written : (t : Bool) (size : ℕ) → cond t (Written size) (NotWritten NoRoom) ≡ NotWritten TooShallow → ⊥
+      written true size e = let z : _≡_ {A = ℕ} 0 1 = cc in omega arith
+      written false size e = let z : _≡_ {A = ℕ} 0 1 = cc in omega arith
 
-  size-is : length bytes ≡ k
-  unfolding buildAnswer
-  size-is = by (leb (length bytes) (length room)) (h .answer ∙ ap (λ (a : Answer). intoRoom a (length bytes) (length room)) nothing-refused)
-    where
-      by : (t : Bool) → Written k ≡ cond t (Written (length bytes)) (NotWritten NoRoom) → length bytes ≡ k
-      by true e = cc
-      by false e = let z : _≡_ {A = ℕ} 0 1 = cc in absurd (omega arith)
+      by : (a : Answer) → intoRoom a (length bytes) (length room) ≡ NotWritten TooShallow → a ≡ Refused TooShallow
+      by Done e = absurd (written (leb (length bytes) (length room)) (length bytes) e)
+      by (Refused w) e = let z : w ≡ TooShallow = cc in ap Refused z
 
-  room-is : out ≡ bytes ++ drop (length bytes) room
-  room-is = h .bytes ∙ sym (ap (λ (a : Writing). roomAfter a bytes room) (h .answer))
+module _ (n : ℕ) (ar ts ds room : List ℕ) (k : ℕ) (out : List ℕ) (h : BuildsLate n ar ts ds room (Written k) out) where
+  pub late-writes : (take k out ≡ stored (lateBuilt n ar ts ds)) × (drop k out ≡ drop k room)
+  late-writes = writes (lateRefusal n ar ts ds) (lateBuilt n ar ts ds) room k out (late-put h)
 
+  -- They read back as the program, which computes the matrix within the limits.
+  pub late-computes : (readStored true (take k out) ≡ found (lateBuilt n ar ts ds)) × LateRight n ar ts ds (lateBuilt n ar ts ds)
+  late-computes =
+      let ok = nothing-refused (lateRefusal n ar ts ds) (lateBuilt n ar ts ds) room k out (late-put h) in
+      (ap (readStored true) (late-writes .0) ∙ building.late-reads-back n ar ts ds ok, late-right n ar ts ds ok)
+
+module _ (n : ℕ) (ts : List ℕ) (D : ℕ) (room : List ℕ) (k : ℕ) (out : List ℕ) (h : Builds n ts D room (Written k) out) where
   pub build-writes : (take k out ≡ stored (built n ts D)) × (drop k out ≡ drop k room)
-  build-writes = (
-    ap (take k) room-is ∙ take-at bytes (drop (length bytes) room) k size-is,
-    ap (drop k) room-is ∙ drop-at bytes (drop (length bytes) room) k size-is ∙ ap (λ (j : ℕ). drop j room) size-is,
-  )
+  build-writes = writes (refusal n ts D) (built n ts D) room k out (builds-put h)
 
   -- They read back as the program, which computes the matrix within the depth.
   pub build-computes : (readStored true (take k out) ≡ found (built n ts D)) × BuiltRight n ts D (built n ts D)
   build-computes =
-      (ap (readStored true) (build-writes .0) ∙ building.reads-back n ts D nothing-refused, built-right n ts D nothing-refused)
+      let ok = nothing-refused (refusal n ts D) (built n ts D) room k out (builds-put h) in
+      (ap (readStored true) (build-writes .0) ∙ building.reads-back n ts D ok, built-right n ts D ok)
 
--- A sound matrix: n and the number of rows in range, no row that is 0 or reaches 2^n; and D at most 15.
+-- ---- Too shallow.
+
+-- a list of causes that is there where a test says so
+told : {t : Bool} {P : Type 0} → Tells t P → P → t ≡ true
+told {t = true} x p = refl
+told {t = false} x p = absurd (x .not-else refl p)
+
+-- A sound matrix: n and the number of rows in range, no row that is 0 or reaches 2^n; an arrival for each input and a limit for each row, each at most 15.
+module _ (n : ℕ) (ar ts ds : List ℕ) (range : OutOfRange n (length ts) 0 → ⊥) (rows : Some (BadRow n) ts → ⊥)
+    (arrivals : length ar ≡ n) (limits : length ds ≡ length ts) (early : Some (λ (a : ℕ). 15 < a) ar → ⊥) (depths : Some (λ (d : ℕ). 15 < d) ds → ⊥)
+    (room : List ℕ) (r : Writing) (out : List ℕ) (h : BuildsLate n ar ts ds room r out) where
+  ahead : Ahead n ar ts ds
+  ahead =
+      record {
+        shape = passes (range-law n (length ts) 0) range;
+        arrivals = arrivals;
+        limits = limits;
+        rows = silent (tells-some (row-tells n) ts) rows;
+        early = silent (deep-tells ar) early;
+        shallow = silent (deep-tells ds) depths;
+      }
+
+  so : (r ≡ NotWritten TooShallow) ↔ (lateRefusal n ar ts ds ≡ Refused TooShallow)
+  so = answered-so (lateRefusal n ar ts ds) (lateBuilt n ar ts ds) room r out (late-put h)
+
+  -- It is refused as too shallow exactly when no XOR program over the inputs at those arrivals makes each row within its own limit,
+  pub too-shallow-no-late-program : (r ≡ NotWritten TooShallow) ↔ ((gs : List Xor) → ComputesLate n ar ts ds gs → ⊥)
+  too-shallow-no-late-program =
+      let q = building.too-shallow-is-no-late-program n ar ts ds ahead in
+      (λ e. q .0 (so .0 e), λ f. so .1 (q .1 f))
+
+  -- which is the same as a row's sum of 2^arrival over its inputs exceeding 2^limit.
+  pub too-shallow-late : (r ≡ NotWritten TooShallow) ↔ LateRow n ar ts ds
+  too-shallow-late =
+      let q = building.too-shallow-is-late n ar ts ds ahead in
+      let t = late-tells n ar ts ds limits in
+      (λ e. t .holds (q .0 (so .0 e)), λ s. so .1 (q .1 (told t s)))
+
+-- The same where all inputs are there at depth 0, and D is at most 15.
 module _ (n : ℕ) (ts : List ℕ) (D : ℕ) (range : OutOfRange n (length ts) 0 → ⊥) (rows : Some (BadRow n) ts → ⊥) (depth : D ≤ 15)
     (room : List ℕ) (r : Writing) (out : List ℕ) (h : Builds n ts D room r out) where
   shape-fits : shaped n (length ts) 0 ≡ true
@@ -241,40 +368,21 @@ module _ (n : ℕ) (ts : List ℕ) (D : ℕ) (range : OutOfRange n (length ts) 0
   rows-fit : anyOf (map (badRow n) ts) ≡ false
   rows-fit = silent (tells-some (row-tells n) ts) rows
 
-  answered-so : (r ≡ NotWritten TooShallow) ↔ (refusal n ts D ≡ Refused TooShallow)
-  unfolding buildAnswer
-  answered-so = (
-    λ e. by (refusal n ts D) (sym (h .answer) ∙ e),
-    λ e. h .answer ∙ ap (λ (a : Answer). intoRoom a (length (stored (built n ts D))) (length room)) e,
-  )
-    where
-      written : (t : Bool) (size : ℕ) → cond t (Written size) (NotWritten NoRoom) ≡ NotWritten TooShallow → ⊥
-      written true size e = let z : _≡_ {A = ℕ} 0 1 = cc in omega arith
-      written false size e = let z : _≡_ {A = ℕ} 0 1 = cc in omega arith
-
-      by : (a : Answer) → intoRoom a (length (stored (built n ts D))) (length room) ≡ NotWritten TooShallow → a ≡ Refused TooShallow
-      by Done e = absurd (written (leb (length (stored (built n ts D))) (length room)) (length (stored (built n ts D))) e)
-      by (Refused w) e = let z : w ≡ TooShallow = cc in ap Refused z
+  refused-so : (r ≡ NotWritten TooShallow) ↔ (refusal n ts D ≡ Refused TooShallow)
+  refused-so = answered-so (refusal n ts D) (built n ts D) room r out (builds-put h)
 
   -- It is refused as too shallow exactly when no XOR program of that depth computes it,
   pub too-shallow-no-program : (r ≡ NotWritten TooShallow) ↔ ((gs : List Xor) → Computes n ts D gs → ⊥)
   too-shallow-no-program =
       let q = building.too-shallow-is-no-program n ts D shape-fits rows-fit depth in
-      (λ e. q .0 (answered-so .0 e), λ f. answered-so .1 (q .1 f))
+      (λ e. q .0 (refused-so .0 e), λ f. refused-so .1 (q .1 f))
 
   -- which is the same as a row's weight exceeding 2^D.
   pub too-shallow-heavy : (r ≡ NotWritten TooShallow) ↔ Some (λ (t : ℕ). 2 ^ D < weight n t) ts
   too-shallow-heavy =
       let q = building.too-shallow-is-heavy n ts D shape-fits rows-fit depth in
       let t = tells-some (heavy-tells n D) ts in
-      (λ e. t .holds (q .0 (answered-so .0 e)), λ s. answered-so .1 (q .1 (some-true s)))
-    where
-      some-true : Some (λ (t : ℕ). 2 ^ D < weight n t) ts → anyOf (map (tooHeavy n D) ts) ≡ true
-      some-true s = by (anyOf (map (tooHeavy n D) ts)) (tells-some (heavy-tells n D) ts)
-        where
-          by : (u : Bool) → Tells u (Some (λ (t : ℕ). 2 ^ D < weight n t) ts) → u ≡ true
-          by true x = refl
-          by false x = absurd (x .not-else refl s)
+      (λ e. t .holds (q .0 (refused-so .0 e)), λ s. refused-so .1 (q .1 (told t s)))
 
 -- ---- The builder and the bench agree: what was built, opened with its matrix, passes wherever the limits allow its gates and depth.
 
@@ -286,41 +394,67 @@ ones-stop (suc k) n t x h b =
     (λ l. let p : n ≤ k = omega arith in let z = bit-above k t (omega (arith, pow-mono p)) in let q = ones-stop k n t x p b in omega (arith, q, z))
     (eq-or-lt-of-le {n = n} {m = suc k} h)
 
-module _ (n : ℕ) (ts : List ℕ) (D : ℕ) (ok : refusal n ts D ≡ Done) (l : Limits) (small : LimitsFit l) where
-  abbrev opened : State
-  opened = state (built n ts D) (matrix ts) l
+module _ (n : ℕ) (ar ts ds : List ℕ) (ok : lateRefusal n ar ts ds ≡ Done) (l : Limits) (small : LimitsFit l) where
+  abbrev late-opened : State
+  late-opened = state (lateBuilt n ar ts ds) (matrix ts) l
 
-  sound-opened : Sound opened
+  ahead-of : Ahead n ar ts ds
+  ahead-of = accepted n ar ts ds ok .ahead
+
+  outs-are : length (lateBuilt n ar ts ds .outs) ≡ length ts
+  outs-are = late-outs n ar ts ds (sym (ahead-of .limits))
+
+  sound-opened : Sound late-opened
   sound-opened =
-      let a = accepted n ts D ok in
       record {
-        circuit = sound-circuit n ts D a;
-        target = passes (target-law (built n ts D .inputs) (length (built n ts D .outs)) (matrix ts)) unbroken;
+        circuit = building.late-sound n ar ts ds ok;
+        target = passes (target-law (lateBuilt n ar ts ds .inputs) (length (lateBuilt n ar ts ds .outs)) (matrix ts)) unbroken;
         limits = small;
       }
     where
-      unbroken : BrokenTarget (built n ts D .inputs) (length (built n ts D .outs)) (matrix ts) → ⊥
-      unbroken (inl e) = e (sym (built-outs n ts D))
-      unbroken (inr s) = tells-some (row-tells n) ts .not-else (accepted n ts D ok .rows) (subst (λ (k : ℕ). Some (BadRow k) ts) (built-inputs n ts D) s)
+      unbroken : BrokenTarget (lateBuilt n ar ts ds .inputs) (length (lateBuilt n ar ts ds .outs)) (matrix ts) → ⊥
+      unbroken (inl e) = e (sym outs-are)
+      unbroken (inr s) = tells-some (row-tells n) ts .not-else (ahead-of .rows) (subst (λ (k : ℕ). Some (BadRow k) ts) (late-inputs n ar ts ds) s)
 
-  pub built-opens : openAnswer (stored (built n ts D)) (matrix ts) ≡ Done
-  built-opens = opens opened sound-opened
+  pub late-opens : openAnswer (stored (lateBuilt n ar ts ds)) (matrix ts) ≡ Done
+  late-opens = opens late-opened sound-opened
 
-  pub built-passes : length (built n ts D .gates) ≤ l .gates → depthOf (built n ts D) ≤ l .depth
-      → {b : Bench} → Runs emptyBench (opening (stored (built n ts D)) (matrix ts) l ∷ []) b → (r : Reported) → ReportPromise b r
-      → (r ≡ Given (reportOf opened)) × (reportOf opened .verdict ≡ Pass)
-  built-passes g d run r h = (report-given opened run (opens-as opened sound-opened) r h, passes-exactly opened .1 right)
+  pub late-passes : length (lateBuilt n ar ts ds .gates) ≤ l .gates → depthOf (lateBuilt n ar ts ds) ≤ l .depth
+      → {b : Bench} → Runs emptyBench (opening (stored (lateBuilt n ar ts ds)) (matrix ts) l ∷ []) b → (r : Reported) → ReportPromise b r
+      → (r ≡ Given (reportOf late-opened)) × (reportOf late-opened .verdict ≡ Pass)
+  late-passes g d run r h = (report-given late-opened run (opens-as late-opened sound-opened) r h, passes-exactly late-opened .1 right)
     where
-      right : Right opened
+      right : Right late-opened
       right =
-          let f = fit n ts (accepted n ts D ok .shape) (accepted n ts D ok .rows) in
-          let b = built-right n ts D ok in
+          let f = looking n ar ts ds ahead-of .fit in
+          let b = late-right n ar ts ds ok in
           record {
             equal = λ x j hx hj.
-                b .computes x j (subst (λ (m : ℕ). j < m) (built-outs n ts D) hj)
+                b .computes x j (subst (λ (m : ℕ). j < m) outs-are hj)
                 ∙ ap (λ (k : ℕ). k % 2) (sym (ones-stop 8 n (getD ts j 0) x (f .inputs) (f .below j)))
                 ∙ sym (row-sum 8 (getD ts j 0) x);
             gates = g;
             depth = d;
             andDepth = omega (arith, b .linear);
           }
+
+module _ (n : ℕ) (ts : List ℕ) (D : ℕ) (ok : refusal n ts D ≡ Done) (l : Limits) (small : LimitsFit l) where
+  abbrev opened : State
+  opened = state (built n ts D) (matrix ts) l
+
+  taken-late : lateRefusal n (atOnce n) ts (alike D ts) ≡ Done
+  taken-late = sym (building.as-late n ts D .0) ∙ ok
+
+  pub built-opens : openAnswer (stored (built n ts D)) (matrix ts) ≡ Done
+  built-opens = ap (λ (c : Listing). openAnswer (stored c) (matrix ts)) (building.as-late n ts D .1) ∙ late-opens n (atOnce n) ts (alike D ts) taken-late l small
+
+  pub built-passes : length (built n ts D .gates) ≤ l .gates → depthOf (built n ts D) ≤ l .depth
+      → {b : Bench} → Runs emptyBench (opening (stored (built n ts D)) (matrix ts) l ∷ []) b → (r : Reported) → ReportPromise b r
+      → (r ≡ Given (reportOf opened)) × (reportOf opened .verdict ≡ Pass)
+  built-passes g d {b} run r h =
+      let e = building.as-late n ts D .1 in
+      subst (λ (c : Listing). (r ≡ Given (reportOf (state c (matrix ts) l))) × (reportOf (state c (matrix ts) l) .verdict ≡ Pass)) (sym e)
+      (late-passes n (atOnce n) ts (alike D ts) taken-late l small
+      (subst (λ (c : Listing). length (c .gates) ≤ l .gates) e g)
+      (subst (λ (c : Listing). depthOf c ≤ l .depth) e d)
+      (subst (λ (c : Listing). Runs emptyBench (opening (stored c) (matrix ts) l ∷ []) b) e run) r h)

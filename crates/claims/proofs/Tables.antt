@@ -9,8 +9,9 @@ use Rattle.circuit.specs.Lines.{Gate, Listing}
 use Rattle.circuit.specs.Rules.{answerNo}
 use Rattle.stored.specs.Stored.{stored}
 use Rattle.stored.specs.Writing.{writingNo}
-use Rattle.distance.specs.Base.{weight}
+use Rattle.distance.specs.Base.{weight, load}
 use Rattle.builder.specs.Call.{built}
+use Rattle.builder.specs.Late.{lateBuilt}
 use Rattle.formula.specs.Text.{wordEnd}
 use Rattle.grammar.specs.File.{Assignment, File, Place}
 use Rattle.known.specs.Known.{Fault, NameFault}
@@ -129,6 +130,20 @@ buildTable n ts D room =
     (first 9 (15 < D)
     (first 10 (Some (λ (t : ℕ). 2 ^ D < weight n t) ts)
     (first 11 (room < length (stored (built n ts D))) accepted))))
+
+-- a row's sum of 2 ^ arrival over its inputs exceeds 2 ^ its limit
+abbrev pub LateRow : ℕ → List ℕ → List ℕ → List ℕ → Type 0
+LateRow n ar ts ds = (i : ℕ) × ((i < length ts) × (2 ^ getD ds i 0 < load n ar (getD ts i 0)))
+
+-- a build with late signals: 1, then 2 for the number of arrivals or of limits, 8, 9 for an arrival or a limit, 10, 11
+abbrev pub lateTable : ℕ → List ℕ → List ℕ → List ℕ → ℕ → ℕ → Type 0
+lateTable n ar ts ds room =
+    first 1 (OutOfRange n (length ts) 0)
+    (first 2 ((length ar ≡ n → ⊥) ⊎ (length ds ≡ length ts → ⊥))
+    (first 8 (Some (BadRow n) ts)
+    (first 9 (Some (λ (a : ℕ). 15 < a) ar ⊎ Some (λ (d : ℕ). 15 < d) ds)
+    (first 10 (LateRow n ar ts ds)
+    (first 11 (room < length (stored (lateBuilt n ar ts ds))) accepted)))))
 
 -- distance: n (1); mask and depth lists unequal, empty or over 256 (2); a base mask of 2^n or more, target 0 or 2^n or more (8); a depth or D over 15 (9)
 abbrev pub distanceTable : ℕ → List ℕ → List ℕ → ℕ → ℕ → ℕ → Type 0
