@@ -129,6 +129,7 @@ fn call(bench: &mut Bench, word: &[u8], rest: &[&[u8]]) -> Result<String, Fault>
         (b"held", []) => held(bench),
         (b"show", []) => show(bench),
         (b"build", &[n, rows, d, room]) => build(n, rows, d, room),
+        (b"late", &[n, arrivals, rows, limits, room]) => late(n, [arrivals, rows, limits], room),
         (b"distance", &[n, masks, depths, t, d]) => query(n, masks, depths, t, d),
         (b"equations", &[text, room]) => read_equations(text, room),
         _ => Err(Fault::Unreadable),
@@ -255,6 +256,14 @@ fn build(n: &[u8], rows: &[u8], d: &[u8], room: &[u8]) -> Result<String, Fault> 
     let (n, rows, d) = (number(n)?, bytes(rows)?, number(d)?);
     let mut room = lend(number(room)?);
     let count = builder::build_into(n, &rows, d, &mut room)?;
+    Ok(format!("built {count} {}", listing::hex(&room[..count])))
+}
+
+/// A build with late signals; the lists are the arrivals, the rows and the limits.
+fn late(n: &[u8], lists: [&[u8]; 3], room: &[u8]) -> Result<String, Fault> {
+    let (n, mut room) = (number(n)?, lend(number(room)?));
+    let [arrivals, rows, limits] = [bytes(lists[0])?, bytes(lists[1])?, bytes(lists[2])?];
+    let count = builder::build_late_into(n, &arrivals, &rows, &limits, &mut room)?;
     Ok(format!("built {count} {}", listing::hex(&room[..count])))
 }
 

@@ -81,6 +81,24 @@ fn stores_builds_and_measures() {
     assert_eq!(answers(refusals), "refused 1\nrefused 2\nrefused 8\nrefused 9\n");
 }
 
+#[test]
+fn builds_with_late_signals() {
+    let call = "late 3 020000 030706 030301";
+    let built = "built 29 53480303034754000001475400010247540000044f50034f50054f5004\n";
+    assert_eq!(answers(&format!("{call} 29\n{call} 18446744073709551615\n")), built.repeat(2));
+    assert_eq!(answers(&format!("{call} 28\nlate 3 020000 030706 030201 0\n")), "refused 11\nrefused 10\n");
+    assert_eq!(answers("late 1 0F 01 0f 8\n"), "built 8 53480101004f5000\n");
+    assert_eq!(answers("late 3 000000 030706 020202 29\n"), answers("build 3 030706 2 29\n"));
+    assert_eq!(answers("late 300 - - - 0\nlate 3 - - 10 0\n"), "refused 1\n".repeat(2));
+    assert_eq!(
+        answers("late 3 - 00 10 0\nlate 3 000010 00 - 0\nlate 3 00 00 1010 0\n"),
+        "refused 2\n".repeat(3)
+    );
+    assert_eq!(answers("late 3 000010 0308 1010 0\nlate 3 000010 00 10 0\n"), "refused 8\n".repeat(2));
+    assert_eq!(answers("late 3 020010 0307 0101 0\nlate 3 020000 0307 01ff 0\n"), "refused 9\n".repeat(2));
+    assert_eq!(on_open("late 300 - - - 0\nreport"), format!("refused 1\n{}", on_open("report")));
+}
+
 /// The call for a file, with room for any circuit.
 fn equations(file: &str) -> String {
     let hex: String = file.bytes().map(|byte| format!("{byte:02x}")).collect();
@@ -193,6 +211,7 @@ fn unknown_words_and_counts_are_no_call() {
     all_unreadable(&["gate 0 3 0", "gate 0 3 0 1 1", "output 0", "output 0 0 0", "entry 0", "limits 1 1"]);
     all_unreadable(&["sweep 0", "sweep all", "Sweep", "sweeps", "append", "append 0 0", "append 0 0 0 0"]);
     all_unreadable(&["build 3 03 2", "build 3 03 2 29 1", "distance 4 01 00 1", "distance 4 01 00 1 1 1"]);
+    all_unreadable(&["late", "late 3 000000 07 03", "late 3 000000 07 03 29 1", "Late 3 000000 07 03 29"]);
     all_unreadable(&["equations", "equations -", "equations - 1 1", "equations 7 1", "equations 79 x"]);
     all_unreadable(&["open - matrix - 0 0", "open - Matrix - 0 0 0", "open 53 48 table - 0 0 0"]);
     all_unreadable(&["\treport", "report\t", "report\r\r", "\rreport", " #"]);
@@ -211,6 +230,8 @@ fn numbers_and_hex_that_are_none() {
         "distance 4 01 0 1 1",
         "build 3 03070 2 29",
     ]);
+    all_unreadable(&["late x 00 01 00 8", "late 1 0 01 00 8", "late 1 00 1 00 8", "late 1 00 01 0g 8"]);
+    all_unreadable(&["late 1 00 01 00 -", "late 1 00 01 00 18446744073709551616", "late 1 00 -- 00 8"]);
     all_unreadable(&["open 5 matrix - 0 0 0", "open 5g matrix - 0 0 0", "open -- matrix - 0 0 0"]);
     assert_eq!(answers("limits 256 0 0\nopen - table - 0 0 256\n"), "unreadable\nunreadable\n");
 }
