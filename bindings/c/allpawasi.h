@@ -75,7 +75,7 @@ allpawasi_edit allpawasi_set_limits(allpawasi_bench *bench, uint8_t max_gates, u
 
 allpawasi_figures allpawasi_report(const allpawasi_bench *bench);
 
-/* How many bytes stand first in the room, or 65,536 times the refusal's number. The same for restore and build. */
+/* How many bytes stand first in the room, or 65,536 times the refusal's number. The same for restore and both builds. */
 size_t allpawasi_store(const allpawasi_bench *bench, uint8_t *room, size_t room_length);
 
 /* Reads a stored circuit and stores it again. only: no gate but XOR is allowed. */
@@ -83,6 +83,11 @@ size_t allpawasi_restore(const uint8_t *bytes, size_t length, bool only, uint8_t
 
 /* Builds an XOR program from a matrix and a depth limit. */
 size_t allpawasi_build(size_t n, const uint8_t *rows, size_t row_count, size_t depth, uint8_t *room, size_t room_length);
+
+/* The same with late signals: input i has depth arrivals[i], and row j is made within limits[j]. There is an arrival for each input
+ * and a limit for each row. Arrivals 0 and equal limits give what allpawasi_build gives. */
+size_t allpawasi_build_late(size_t n, const uint8_t *arrivals, size_t arrival_count, const uint8_t *rows, size_t row_count,
+                            const uint8_t *limits, size_t limit_count, uint8_t *room, size_t room_length);
 
 /* The fewest XOR gates that make a target over a base; 99 where no program does; 100 and the refusal's number. */
 uint64_t allpawasi_distance(size_t n, const uint8_t *masks, size_t mask_count, const uint8_t *depths, size_t depth_count,

@@ -1,5 +1,6 @@
-/* A designer's morning in C: build an XOR program, open it, break a gate, look, mend it, store; read an equation file with a
- * slip, mend it, open it with its table; append a gate in another's place, point an output at it, sweep the other out. */
+/* A designer's morning in C: build an XOR program, open it, break a gate, look, mend it, store; build it for an input that comes
+ * late; read an equation file with a slip, mend it, open it with its table; append a gate in another's place, point an output at
+ * it, sweep the other out. */
 #include "allpawasi.h"
 #include <stdio.h>
 #include <string.h>
@@ -51,6 +52,13 @@ int main(void) {
     tell(&bench);
     printf("stored %zu bytes\n", allpawasi_store(&bench, room, sizeof room));
     printf("distance %llu\n", (unsigned long long)allpawasi_distance(3, rows, 3, (const uint8_t[]){0, 0, 0}, 3, 5, 4));
+
+    const uint8_t arrivals[] = {2, 0, 0}; /* the first input goes in last */
+    uint8_t limits[] = {3, 3, 1};
+    built = allpawasi_build_late(3, arrivals, 3, rows, 3, limits, 3, room, sizeof room);
+    printf("built %zu bytes, last gate %d ^ %d, outputs %d %d %d\n", built, room[18], room[19], room[22], room[25], room[28]);
+    limits[1] = 2; /* 4 + 1 + 1 is more than 2^2 */
+    printf("refused %zu\n", allpawasi_build_late(3, arrivals, 3, rows, 3, limits, 3, room, sizeof room) / 65536);
 
     const uint8_t table[] = {0, 1, 1, 2, 1, 2, 2, 3}; /* how many of three inputs are 1 */
     read_equations("half = x0 ^ x1\ny0 = hall ^ x2\n", room, sizeof room);

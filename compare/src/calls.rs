@@ -126,11 +126,13 @@ fn any_numbers(rng: &mut Rng, line: usize, matrix: bool) -> [usize; 3] {
     [kind, a, b]
 }
 
-/// A gate's numbers for an append: those of a gate that is present, its operands crossed, or any.
+/// A gate's numbers for an append: those of a gate that is present, its operands crossed, or any; now and then those of one that a
+/// matrix does not allow.
 pub fn append_edit(rng: &mut Rng, c: &Circuit, matrix: bool) -> [usize; 3] {
+    let only = matrix && !rng.once_in(6);
     match turned_gate(rng, c) {
         Some([_, kind, a, b]) if rng.once_in(3) => [kind, a, b],
-        _ => any_numbers(rng, c.lines(), matrix),
+        _ => any_numbers(rng, c.lines(), only),
     }
 }
 

@@ -7,6 +7,7 @@ pub mod depths;
 pub mod duplicates;
 pub mod edges;
 pub mod files;
+pub mod late;
 pub mod long_files;
 pub mod met;
 pub mod pair;

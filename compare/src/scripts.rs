@@ -2,6 +2,7 @@
 
 use crate::calls::{self, Call, Present};
 use crate::files::{damaged, file};
+use crate::late;
 use crate::met::{Kind, Met};
 use allpawasi::Limits;
 use reference::bench::Bench;
@@ -71,6 +72,14 @@ fn build(rng: &mut Rng) -> String {
     format!("build {} {} {}", typed(rng, &[typed_n]), hex(rng, &rows), typed(rng, &[d, room]))
 }
 
+fn late(rng: &mut Rng) -> String {
+    let (n, m) = (rng.between(1, 8) as usize, rng.between(1, 12) as usize);
+    let call = if rng.once_in(2) { late::sound(rng, n, m) } else { late::spoiled(rng) };
+    let room = if rng.once_in(5) { number(rng, 200) } else { call.room };
+    let lists = [call.arrivals, call.rows, call.limits].map(|list| hex(rng, &list));
+    format!("late {} {} {}", typed(rng, &[call.n]), lists.join(" "), typed(rng, &[room]))
+}
+
 fn distance(rng: &mut Rng) -> String {
     let (n, lines) = (rng.between(1, 8), rng.between(0, 20));
     let masks: Vec<u8> = (0..lines).map(|_| rng.below(1 << n) as u8).collect();
@@ -90,7 +99,7 @@ fn equations(rng: &mut Rng) -> String {
 /// A line that is a call of the right form, and the call's name.
 fn call(rng: &mut Rng, present: Option<&Present>) -> (&'static str, String) {
     let alone = |name: &'static str| (name, name.to_string());
-    match rng.below(60) {
+    match rng.below(62) {
         0 => alone("new"),
         1..=16 => alone("report"),
         17 | 18 => alone("held"),
@@ -98,6 +107,7 @@ fn call(rng: &mut Rng, present: Option<&Present>) -> (&'static str, String) {
         21..=23 => ("build", build(rng)),
         24..=27 => ("distance", distance(rng)),
         28 | 29 => ("equations", equations(rng)),
+        30 | 31 => ("late", late(rng)),
         _ => {
             let call = calls::call(rng, present);
             on_bench(rng, &call)

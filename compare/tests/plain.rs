@@ -1,17 +1,18 @@
-//! The library beside the plain ways of the independent program, which keep no table and hold no words: the builder and the
+//! The library beside the plain ways of the independent program, which keep no table and hold no words: both builds and the
 //! distance by every set of lines, the distance by every program, circuits worked input value by input value, sweeps by classes
 //! of lines, and equation files by splitting their text.
 
-use allpawasi::distance;
+use allpawasi::{distance, Limits};
 use compare::calls::{concerning, Call};
 use compare::circuits::{circuit, point_at_sums};
-use compare::depths::{play, pointings, trials};
+use compare::depths::{play, pointings, trials, LOOSE};
 use compare::files::{damaged, file};
+use compare::late::{remark, sound, OF_A_PROGRAM};
 use compare::met::{gates, Kind, Met, LEFT_OUT};
 use compare::pair::{our_report, value, Pair};
 use compare::sweeps::morning;
 use compare::targets::{near_limits, near_target, target_met};
-use reference::circuit::write;
+use reference::circuit::{write, Circuit};
 use reference::plain::{bench, builder, equations};
 use reference::rng::Rng;
 
@@ -19,7 +20,7 @@ use reference::rng::Rng;
 #[test]
 fn matrices_of_eight_inputs() {
     let (mut rng, mut met) = (Rng::new(21), Met::default());
-    for round in 0..260 {
+    for round in 0..130 {
         let (m, d) = (rng.between(16, 32), 3 + round % 13);
         let rows = rng.rows(8, m);
         let mut room = [0; 1341];
@@ -29,6 +30,29 @@ fn matrices_of_eight_inputs() {
         assert_eq!(count.map(|count| room[..count].to_vec()), plain.map(|c| write(&c)), "rows {rows:?} D {d}");
     }
     met.ends("plain builds", "build", &[]);
+}
+
+/// Late signals, byte for byte; too shallow by what can be made at each depth.
+#[test]
+fn late_signals() {
+    let (mut rng, mut met) = (Rng::new(28), Met::default());
+    for round in 0..600 {
+        let (n, m) = (if round % 3 == 0 { 8 } else { 4 + round % 4 }, rng.between(2, 16) as usize);
+        let mut late = sound(&mut rng, n, m);
+        if rng.once_in(8) {
+            late.limits[m - 1] = late.limits[m - 1].saturating_sub(1);
+        }
+        let mut room = [0; 1341];
+        let count = allpawasi::build_late(n, &late.arrivals, &late.rows, &late.limits, &mut room);
+        let plain = builder::build_late(n as u64, &late.arrivals, &late.rows, &late.limits).map_err(usize::from);
+        met.answer("late", &count, |_| Kind::Done);
+        if let Ok(c) = &plain {
+            remark(&mut met, &late, c);
+        }
+        assert_eq!(count.map(|count| room[..count].to_vec()), plain.map(|c| write(&c)), "{late:?}");
+    }
+    met.ends_often("plain late builds", "late", &[10], 20);
+    met.said_at_least("a program", &OF_A_PROGRAM, 15);
 }
 
 /// Bases of up to so many lines, with a target and a depth.
@@ -105,18 +129,26 @@ fn sweep(pair: &mut Pair) {
     assert_eq!(room[..count], write(&plain), "sweep of {before:?}");
 }
 
-/// Circuits of 8 inputs, 248 gates and 8 outputs, opened and edited.
+/// Limits that the outputs keep, the AND depth just so: lines that no output names are mostly over it.
+fn kept_by_outputs(c: &Circuit) -> Limits {
+    Limits { and_depth: bench::circuit_depths(c).1, ..LOOSE }
+}
+
+/// Circuits of 8 inputs, 248 gates and 8 outputs, opened and edited. Every fifth passes at first by its outputs' AND depth.
 #[test]
 fn circuits_of_the_most_gates() {
     let (mut rng, mut pair) = (Rng::new(24), Pair::default());
-    for round in 0..400 {
-        let matrix = round % 2 == 0;
+    for round in 0..120 {
+        let matrix = round % 5 < 2;
         let mut c = circuit(&mut rng, 8, 248, 8, matrix);
         if matrix {
             point_at_sums(&mut rng, &mut c);
         }
         assert_eq!(target_met(&c, matrix), bench::target_met(&c, matrix), "what is met by {c:?}");
-        let mut call = Call::Open(write(&c), near_target(&mut rng, &c, matrix), near_limits(&mut rng, &c));
+        let mut call = match round % 5 {
+            4 => Call::Open(write(&c), target_met(&c, matrix), kept_by_outputs(&c)),
+            _ => Call::Open(write(&c), near_target(&mut rng, &c, matrix), near_limits(&mut rng, &c)),
+        };
         for _ in 0..8 {
             make(&mut pair, &call);
             pair.look();

@@ -31,6 +31,7 @@ fn whole_language(met: &Met) {
     met.done_and_refused("held", &[13]);
     met.done_and_refused("show", &[13]);
     met.done_and_refused("build", &[1, 8, 9, 10, 11]);
+    met.done_and_refused("late", &[1, 2, 8, 9, 10, 11]);
     met.done_and_refused("distance", &[1, 2, 8, 9]);
     met.done_and_refused("equations", &[1, 11, 15, 16, 17]);
     met.said("distance", &["none"]);

@@ -1,7 +1,8 @@
-//! A designer's morning in Rust: build an XOR program, open it, break a gate, look, mend it, store; read an equation file with
-//! a slip, mend it, open it with its table; append a gate in another's place, point an output at it, sweep the other out.
+//! A designer's morning in Rust: build an XOR program, open it, break a gate, look, mend it, store; build it for an input that
+//! comes late; read an equation file with a slip, mend it, open it with its table; append a gate in another's place, point an
+//! output at it, sweep the other out.
 
-use allpawasi::{build, distance, equations, Bench, Limits, Refusal};
+use allpawasi::{build, build_late, distance, equations, Bench, Limits, Refusal};
 
 fn main() -> Result<(), Refusal> {
     let rows = [3, 7, 6];
@@ -21,6 +22,11 @@ fn main() -> Result<(), Refusal> {
     println!("{:?}", bench.report()?.verdict);
     println!("stored {} bytes", bench.store(&mut room)?);
     println!("distance {:?}", distance(3, &rows, &[0, 0, 0], 5, 4)?);
+
+    let arrivals = [2, 0, 0]; // the first input goes in last
+    let count = build_late(3, &arrivals, &rows, &[3, 3, 1], &mut room)?;
+    println!("built {count} bytes, last gate {} ^ {}, outputs {:?}", room[18], room[19], [room[22], room[25], room[28]]);
+    println!("{:?}", build_late(3, &arrivals, &rows, &[3, 2, 1], &mut room)); // 4 + 1 + 1 is more than 2^2
 
     println!("{:?}", equations(b"half = x0 ^ x1\ny0 = hall ^ x2\n", &mut room));
     let text = b"half = x0 ^ x1\ny0 = half ^ x2\ny1 = x0 & x1 | half & x2\n";

@@ -144,6 +144,12 @@ pub fn build(n: usize, rows: &[u8], depth: usize, room: &mut [u8]) -> Result<usi
     counted(raw::build(n, rows, depth, room))
 }
 
+/// Builds one with late signals: input i has depth `arrivals[i]`, and row j is made within `limits[j]`. Arrivals 0 and equal limits
+/// give what [`build`] gives. The stored bytes come first in the room, and how many is answered.
+pub fn build_late(n: usize, arrivals: &[u8], rows: &[u8], limits: &[u8], room: &mut [u8]) -> Result<usize, Refusal> {
+    counted(raw::build_late(n, arrivals, rows, limits, room))
+}
+
 /// The fewest XOR gates that make a target over a base of masks and depths, or none.
 pub fn distance(n: usize, masks: &[u8], depths: &[u8], target: usize, depth: usize) -> Result<Option<u64>, Refusal> {
     match raw::distance(n, masks, depths, target, depth) {

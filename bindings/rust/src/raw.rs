@@ -100,6 +100,7 @@ extern "C" {
     fn allpawasi_store(bench: &Bench, room: *mut u8, length: usize) -> usize;
     fn allpawasi_restore(bytes: *const u8, length: usize, only: bool, room: *mut u8, room_length: usize) -> usize;
     fn allpawasi_build(n: usize, rows: *const u8, count: usize, depth: usize, room: *mut u8, length: usize) -> usize;
+    fn allpawasi_build_late(n: usize, arrivals: *const u8, arrival_count: usize, rows: *const u8, row_count: usize, limits: *const u8, limit_count: usize, room: *mut u8, length: usize) -> usize;
     fn allpawasi_distance(n: usize, masks: *const u8, lines: usize, depths: *const u8, count: usize, target: usize, depth: usize) -> u64;
     fn allpawasi_equations(text: *const u8, length: usize, room: *mut u8, room_length: usize) -> Reading;
 }
@@ -150,6 +151,10 @@ pub fn restore(bytes: &[u8], only: bool, room: &mut [u8]) -> usize {
 
 pub fn build(n: usize, rows: &[u8], depth: usize, room: &mut [u8]) -> usize {
     unsafe { allpawasi_build(n, rows.as_ptr(), rows.len(), depth, room.as_mut_ptr(), room.len()) }
+}
+
+pub fn build_late(n: usize, arrivals: &[u8], rows: &[u8], limits: &[u8], room: &mut [u8]) -> usize {
+    unsafe { allpawasi_build_late(n, arrivals.as_ptr(), arrivals.len(), rows.as_ptr(), rows.len(), limits.as_ptr(), limits.len(), room.as_mut_ptr(), room.len()) }
 }
 
 pub fn distance(n: usize, masks: &[u8], depths: &[u8], target: usize, depth: usize) -> u64 {
