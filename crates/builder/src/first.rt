@@ -7,6 +7,10 @@ ghost use Rattle.builder.specs.Kept.{Held, MaskSums};
 use crate::look::power;
 use distance::table::cost;
 
+// More than any load: a mask's weight is counted in these, its load stands below, and in the table it says that there is no
+// such set.
+const FAR: u32 = 1048576;
+
 // The sums of the masks below 2^(i + 1): those below 2^i, and with input i each again.
 fn take_input(sums: &mut [u32; 256], arrivals: &[u8], i: usize)
     requires { ⌜ i < 8 ⌝ ∗ ⌜ i < length (now arrivals) ⌝ ∗ ⌜ Shallow (now arrivals) ⌝ ∗ ⌜ MaskSums i (now arrivals) (now sums) ⌝ }
@@ -14,7 +18,7 @@ fn take_input(sums: &mut [u32; 256], arrivals: &[u8], i: usize)
 {
     let top = power(i);
     let arrival = arrivals[i];
-    let c = 1048576 + cost(arrival);
+    let c = FAR + cost(arrival);
     for t in 0..top {
         sums[top + t] = sums[t] + c;
     }
@@ -38,12 +42,12 @@ pub(crate) fn first_table(n: usize, arrivals: &[u8]) -> [u32; 2304]
     ensures { λ r. ⌜ Held r (arriving n (now (arrivals .entry))) 9 ⌝ }
 {
     let sums = mask_sums(n, arrivals);
-    let mut h = [1048576u32; 2304];
+    let mut h = [FAR; 2304];
     let end = power(n);
     for t in 0..end {
         let sum = sums[t];
-        let weight = (sum / 1048576) as usize;
-        h[weight * 256 + t] = sum % 1048576;
+        let weight = (sum / FAR) as usize;
+        h[weight * 256 + t] = sum % FAR;
     }
     h
 }
