@@ -10,6 +10,14 @@ pub fn pick<T: Copy>(rng: &mut Rng, list: &[T]) -> Option<T> {
     (!list.is_empty()).then(|| list[rng.below(list.len() as u64) as usize])
 }
 
+/// A stored XOR program with these gates and outputs.
+pub fn xor_program(n: u8, gates: &[[u8; 2]], outs: &[u8]) -> Vec<u8> {
+    let mut bytes = vec![0x53, 0x48, n, outs.len() as u8, gates.len() as u8];
+    gates.iter().for_each(|[a, b]| bytes.extend([0x47, 0x54, 0, *a, *b]));
+    outs.iter().for_each(|line| bytes.extend([0x4F, 0x50, *line]));
+    bytes
+}
+
 /// A sound circuit with these numbers of inputs, gates and outputs. `only`: no gate but XOR.
 pub fn circuit(rng: &mut Rng, n: u8, g: usize, m: usize, only: bool) -> Circuit {
     let gates = (0..g).map(|k| gate(rng, n as usize + k, only)).collect();

@@ -1,5 +1,5 @@
-//! Random circuits, targets, calls and equation files, for comparing the proved library with the independent program, and
-//! the count of what a comparison met.
+//! Random circuits, targets, calls and equation files, for comparing the proved library with the independent program, the
+//! published vectors, and the count of what a comparison met.
 
 pub mod calls;
 pub mod circuits;
@@ -16,3 +16,4 @@ pub mod scripts;
 pub mod sweeps;
 pub mod swept;
 pub mod targets;
+pub mod vectors;

@@ -1,7 +1,9 @@
 //! The builder: refusals in their order, and the stored program byte for byte, with the room after it.
 
 use allpawasi::build;
+use compare::circuits::xor_program as program;
 use compare::met::{Kind, Met};
+use compare::vectors::{matrices, Matrix};
 use reference::builder;
 use reference::rng::Rng;
 
@@ -66,14 +68,6 @@ fn built(n: usize, rows: &[u8], d: usize) -> Result<Vec<u8>, usize> {
     build(n, rows, d, &mut room).map(|count| room[..count].to_vec())
 }
 
-/// A stored XOR program with these gates and outputs.
-fn program(n: u8, gates: &[[u8; 2]], outs: &[u8]) -> Vec<u8> {
-    let mut bytes = vec![0x53, 0x48, n, outs.len() as u8, gates.len() as u8];
-    gates.iter().for_each(|[a, b]| bytes.extend([0x47, 0x54, 0, *a, *b]));
-    outs.iter().for_each(|line| bytes.extend([0x4F, 0x50, *line]));
-    bytes
-}
-
 /// K1 to K5, and the edges.
 #[test]
 fn the_examples() {
@@ -89,10 +83,7 @@ fn the_examples() {
 #[test]
 fn published_matrices() {
     let mut met = Met::default();
-    for line in include_str!("../../vectors/matrices.txt").lines() {
-        let words: Vec<&str> = line.split(' ').collect();
-        let n: usize = words[1].parse().expect("a number");
-        let rows: Vec<u8> = (0..words[2].len() / 2).map(|i| u8::from_str_radix(&words[2][2 * i..2 * i + 2], 16).expect("hex")).collect();
+    for Matrix { n, rows, .. } in matrices() {
         (0..16).for_each(|d| compare(&mut met, n, &rows, d, 1341));
     }
     met.ends("published matrices", "build", &[10]);

@@ -1,9 +1,11 @@
 //! The build with late signals: refusals in their order, and the stored program byte for byte, with the room after it.
 
 use allpawasi::{build, build_late};
+use compare::circuits::xor_program as program;
 use compare::late::{arrivals, binding, causes, just_enough, least, load, other_length, remark, sound, spoiled, theirs};
 use compare::late::{Late, OF_A_PROGRAM};
 use compare::met::{Kind, Met};
+use compare::vectors::{matrices, Matrix};
 use reference::builder::build_late_into;
 use reference::plain::builder::within_reach;
 use reference::rng::Rng;
@@ -216,14 +218,6 @@ fn built(arrivals: &[u8], rows: &[u8], limits: &[u8]) -> Result<Vec<u8>, usize> 
     build_late(arrivals.len(), arrivals, rows, limits, &mut room).map(|count| room[..count].to_vec())
 }
 
-/// A stored XOR program with these gates and outputs.
-fn program(n: u8, gates: &[[u8; 2]], outs: &[u8]) -> Vec<u8> {
-    let mut bytes = vec![0x53, 0x48, n, outs.len() as u8, gates.len() as u8];
-    gates.iter().for_each(|[a, b]| bytes.extend([0x47, 0x54, 0, *a, *b]));
-    outs.iter().for_each(|line| bytes.extend([0x4F, 0x50, *line]));
-    bytes
-}
-
 /// Programs worked out by hand.
 #[test]
 fn small_examples() {
@@ -245,10 +239,7 @@ fn small_examples() {
 #[test]
 fn published_matrices() {
     let (mut rng, mut met) = (Rng::new(50), Met::default());
-    for line in include_str!("../../vectors/matrices.txt").lines() {
-        let words: Vec<&str> = line.split(' ').collect();
-        let n: usize = words[1].parse().expect("a number");
-        let rows: Vec<u8> = (0..words[2].len() / 2).map(|i| u8::from_str_radix(&words[2][2 * i..2 * i + 2], 16).expect("hex")).collect();
+    for Matrix { n, rows, .. } in matrices() {
         for round in 0..12 {
             let arrivals: Vec<u8> = (0..n).map(|_| rng.below(1 + round % 6) as u8).collect();
             let more = |row: &u8| least(&arrivals, *row) + (round / 6) as u8;

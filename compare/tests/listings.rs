@@ -5,12 +5,9 @@ use allpawasi::{Limits, Verdict};
 use compare::calls::Call;
 use compare::met::VERDICTS;
 use compare::pair::Pair;
+use compare::vectors::unhex;
 use reference::circuit::{read, write};
 use reference::examine::Target;
-
-fn hex(s: &str) -> Vec<u8> {
-    (0..s.len() / 2).map(|i| u8::from_str_radix(&s[2 * i..2 * i + 2], 16).expect("hex")).collect()
-}
 
 /// What a paper says, where it does: the definition's own count decides for the listings whose figures do not hold as printed.
 const MISPRINTED: [&str; 3] = ["000-L14", "000-L15", "000-L19"];
@@ -64,7 +61,7 @@ fn published_circuits() {
     for line in include_str!("../../vectors/circuits.txt").lines() {
         let words: Vec<&str> = line.split(' ').collect();
         pair.clear();
-        check(&mut pair, words[0], &hex(words[1]), &hex(words[2]), &words[3..]);
+        check(&mut pair, words[0], &unhex(words[1]), &unhex(words[2]), &words[3..]);
         seen += 1;
     }
     assert_eq!(seen, 46);

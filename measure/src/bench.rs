@@ -6,6 +6,7 @@ use allpawasi::{Bench, Limits};
 use compare::circuits::circuit;
 use compare::duplicates::{with_duplicates, without_duplicates};
 use compare::targets::target_met;
+use compare::vectors::unhex;
 use reference::bench::Bench as Native;
 use reference::circuit::{read, write, Circuit};
 use reference::examine::{Limits as NativeLimits, Target};
@@ -22,8 +23,7 @@ const NATIVE_LOOSE: NativeLimits = NativeLimits { gates: 255, depth: 255, and_de
 fn aes() -> (Circuit, Vec<u8>) {
     let line = include_str!("../../vectors/circuits.txt").lines().find(|l| l.starts_with("000-L11 ")).expect("it is there");
     let words: Vec<&str> = line.split(' ').collect();
-    let hex = |s: &str| (0..s.len() / 2).map(|i| u8::from_str_radix(&s[2 * i..2 * i + 2], 16).expect("hex")).collect::<Vec<u8>>();
-    (read(&hex(words[1]), false).expect("sound"), hex(words[2]))
+    (read(&unhex(words[1]), false).expect("sound"), unhex(words[2]))
 }
 
 /// The entries of the table that a circuit meets.

@@ -2,6 +2,7 @@
 
 use crate::{keep, row};
 use compare::late::{least, Late};
+use compare::vectors::matrices;
 use reference::builder::build_late_into;
 use reference::rng::Rng;
 
@@ -34,11 +35,9 @@ fn measure_late(rng: &mut Rng) {
 }
 
 pub fn measure() {
-    let line = include_str!("../../vectors/matrices.txt").lines().find(|l| l.starts_with("000-aes-top ")).expect("it is there");
-    let hex = line.split(' ').nth(2).expect("rows");
-    let top: Vec<u8> = (0..hex.len() / 2).map(|i| u8::from_str_radix(&hex[2 * i..2 * i + 2], 16).expect("hex")).collect();
+    let top = matrices().find(|matrix| matrix.name == "000-aes-top").expect("it is there");
     for d in [3, 4] {
-        one(&format!("build, AES top layer, D={d}"), &vec![top.clone(); 50], d);
+        one(&format!("build, AES top layer, D={d}"), &vec![top.rows.clone(); 50], d);
     }
     let mut rng = Rng::new(9);
     let matrices: Vec<Vec<u8>> = (0..50).map(|_| rng.rows(8, 32)).collect();

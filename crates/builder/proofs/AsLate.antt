@@ -1,5 +1,5 @@
 -- The call of 01 is the case of arrivals 0 and one limit for all rows: its circuit, its refusals, its plan, and the programs that compute a matrix.
-use mathlib.Core.Bool.{Bool, true, false, not, _||_}
+use mathlib.Core.Bool.{Bool, true, false, not, _||_, or-false, or-self}
 use mathlib.Core.List.{List, [], _∷_, map}
 use mathlib.Core.Path.{_≡_, refl, sym, ap, ap₂, _∙_, subst}
 use Prim.Native.Nat.{ℕ, zero, suc, _+_, _-_, _^_, _≤_, _<_, min}
@@ -66,15 +66,7 @@ built-late n ts D = ap₂ (greedyCircuit n) (sym (at-once n)) (sym (rows-alike D
 -- ---- the refusals
 not-deep : (m : ℕ) (x : ℕ) → anyDeep (replicate (suc m) x) ≡ ltb 15 x
 not-deep zero x = or-false (ltb 15 x)
-  where
-    or-false : (b : Bool) → (b || false) ≡ b
-    or-false true = refl
-    or-false false = refl
-not-deep (suc m) x = ap (λ (b : Bool). ltb 15 x || b) (not-deep m x) ∙ twice (ltb 15 x)
-  where
-    twice : (b : Bool) → (b || b) ≡ b
-    twice true = refl
-    twice false = refl
+not-deep (suc m) x = ap (λ (b : Bool). ltb 15 x || b) (not-deep m x) ∙ or-self (ltb 15 x)
 
 none-deep : (m : ℕ) → anyDeep (replicate m 0) ≡ false
 none-deep zero = refl
