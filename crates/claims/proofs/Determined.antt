@@ -19,7 +19,7 @@
 --   |----------------------------------------------------------|---------------------------------------------------|
 --   | stored writer::write                                     | write-determined                                  |
 --   | stored restore::restored, linked::allpawasi_restore      | restore-determined                                |
---   | distance table::take_in, table::fill                     | take-in-determined, fill-determined               |
+--   | distance table::take_in                                  | take-in-determined                                |
 --   | builder build                                            | build-determined                                  |
 --   | builder build_no, linked::allpawasi_build                | build-number-determined                           |
 --   | builder build_late                                       | late-determined                                   |
@@ -53,8 +53,7 @@ use Rattle.circuit.specs.declared.Circuit.{Circuit}
 use Rattle.stored.specs.declared.Writing.{Writing}
 use Rattle.stored.specs.Writing.{Wrote, Restored}
 use Rattle.stored.proofs.Written as writing
-use Rattle.distance.specs.Base.{Line}
-use Rattle.distance.specs.Table.{TakenIn, Filled}
+use Rattle.distance.specs.Table.{TakenIn}
 use Rattle.distance.proofs.Unique as distances
 use Rattle.builder.specs.Call.{Builds, BuildsNumbered}
 use Rattle.builder.specs.Late.{BuildsLate, BuildsLateNumbered}
@@ -104,9 +103,6 @@ restore-determined only bytes room r s out last p q = (determined (p .answer) (q
 
 pub take-in-determined : (h r s : List ℕ) (m c end : ℕ) → TakenIn h r m c end → TakenIn h s m c end → r ≡ s
 take-in-determined = distances.take-in-unique
-
-pub fill-determined : (r s : List ℕ) (ls : List Line) (sizes : ℕ) → Filled r ls sizes → Filled s ls sizes → r ≡ s
-fill-determined = distances.fill-unique
 
 pub build-determined : (n : ℕ) (ts : List ℕ) (D : ℕ) (room : List ℕ) (r s : Writing) (out last : List ℕ) → Builds n ts D room r out → Builds n ts D room s last
     → (r ≡ s) × (out ≡ last)

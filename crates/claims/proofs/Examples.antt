@@ -14,7 +14,7 @@ use Rattle.distance.specs.declared.Answer.{Answer as Distance}
 use Rattle.distance.specs.declared.Answer.the-variants.{Gates, Never}
 use Rattle.distance.specs.Base.{Line, xor, baseOf}
 use Rattle.distance.specs.Distance.{distance, gates, never}
-use Rattle.distance.specs.Query.{lookAt, answerOf}
+use Rattle.distance.specs.Query.{lookAt, answerOf, linesOf}
 use Rattle.distance.proofs.Examples as distances
 use Rattle.builder.specs.Rule.{xorGate}
 use Rattle.builder.specs.Call.{built, refusal}
@@ -48,6 +48,10 @@ baseWith mask = baseOf (masksWith mask) depths
 -- the same as a query, with n = 4
 abbrev asked : ℕ → ℕ → ℕ → Distance
 asked mask target D = answerOf 4 (masksWith mask) depths target D
+
+-- and its lines
+abbrev askedLines : ℕ → ℕ → ℕ → List ℕ
+askedLines mask target D = linesOf 4 (masksWith mask) depths target D
 
 -- K8: n = 2, table 0 0 0 1, one AND of lines 0 and 1, output 2, limits 1 1 1
 abbrev calls8 : List Call
@@ -99,9 +103,13 @@ pub record Examples : Type 0 where
   -- K6: n=4, masks 1, 2, 4, 8, 7, target 15: D=3 gives 1, D=2 gives 3, D=1 none; by the definition, and as a query
   pub K6 : (distance 4 (baseWith 7) 15 3 ≡ gates 1) × (distance 4 (baseWith 7) 15 2 ≡ gates 3) × (distance 4 (baseWith 7) 15 1 ≡ never)
   pub K6-asked : (asked 7 15 3 ≡ Gates 1) × (asked 7 15 2 ≡ Gates 3) × (asked 7 15 1 ≡ Never)
+  -- and its lines (request 5): 8 and 7, the four inputs, none
+  pub K6-lines : (askedLines 7 15 3 ≡ 3 ∷ 4 ∷ []) × (askedLines 7 15 2 ≡ 0 ∷ 1 ∷ 2 ∷ 3 ∷ []) × (askedLines 7 15 1 ≡ [])
   -- K7: masks 1, 2, 4, 8, 15, target 7: D=3 gives 1, D=2 gives 2, D=1 none; the same
   pub K7 : (distance 4 (baseWith 15) 7 3 ≡ gates 1) × (distance 4 (baseWith 15) 7 2 ≡ gates 2) × (distance 4 (baseWith 15) 7 1 ≡ never)
   pub K7-asked : (asked 15 7 3 ≡ Gates 1) × (asked 15 7 2 ≡ Gates 2) × (asked 15 7 1 ≡ Never)
+  -- 8 and 15, three inputs, none
+  pub K7-lines : (askedLines 15 7 3 ≡ 3 ∷ 4 ∷ []) × (askedLines 15 7 2 ≡ 0 ∷ 1 ∷ 2 ∷ []) × (askedLines 15 7 1 ≡ [])
   -- K8: pass; depth 1, AND depth 1
   pub K8 : reported (presentAfter calls8) ≡ reporting 1 0 1 0 1 1 Pass
   -- K9: wrong at input 0, output 0; reworked line 2 only
@@ -127,8 +135,10 @@ all-examples =
       built-all = building.sound;
       K6 = distances.K6;
       K6-asked = (refl, refl, refl);
+      K6-lines = distances.K6-lines;
       K7 = distances.K7;
       K7-asked = (refl, refl, refl);
+      K7-lines = distances.K7-lines;
       K8 = refl;
       K9 = (refl, refl, refl, refl);
       K10 = (refl, refl);

@@ -1,6 +1,6 @@
 -- Demand 1: every call gets an answer; a refusal carries the number that the definition gives for its cause, and bench and lent bytes stay as before.
 -- What the causes are, in their order, is in Tables; `GivenExactly number table` says that the number is n exactly when the table says n.
-use mathlib.Core.Path.{_≡_, refl, sym, ap, _∙_, subst}
+use mathlib.Core.Path.{_≡_, refl, sym, ap, ap₂, _∙_, subst}
 use mathlib.Core.Bool.{Bool, true, false, cond}
 use mathlib.Core.List.{List, [], _∷_, map}
 use Prim.Native.Nat.{ℕ, zero, suc, _+_, _*_, _^_, _≤_, _<_, _-_, _/_, min}
@@ -27,14 +27,18 @@ use Rattle.stored.specs.Writing.{writingNo, roomAfter, Wrote, writingCode, into
 use Rattle.stored.proofs.Accept.{whole}
 use Rattle.stored.proofs.Round.{gate-bytes-length, out-bytes-length, read-stored, stored-read}
 use Rattle.stored.proofs.Restoring.{answer-of}
+use Rattle.distance.specs.declared.Refusal.{Refusal as QueryRefusal}
 use Rattle.distance.specs.declared.Refusal.the-variants.{Inputs, Lists, Mask, Depth}
 use Rattle.distance.specs.declared.Looked.{Looked}
 use Rattle.distance.specs.declared.Looked.the-variants.{Sound as Looks, Unsound}
-use Rattle.distance.specs.declared.Answer.{Answer as Distance}
+use Rattle.distance.specs.declared.Answer.the-variants.{Refused as Unanswered}
+use Rattle.distance.specs.declared.Found.{Found}
+use Rattle.distance.specs.declared.FoundNumbers.{FoundNumbers}
 use Rattle.distance.specs.Base.{baseOf, Line}
 use Rattle.distance.specs.Distance.{Gap, gates, never, distance, can, gapFrom}
-use Rattle.distance.specs.Query.{lookAt, answered, answerOf, distanceNo, distanceCode, queryRefusalNo, whereSound}
+use Rattle.distance.specs.Query.{lookAt, answered, answerOf, found, foundOf, foundCode, distanceNo, distanceCode, queryRefusalNo, whereSound}
 use Rattle.distance.proofs.Refuse.{fit}
+use Rattle.distance.proofs.Theorems as distances
 use Rattle.builder.specs.Call.{built, refusal, buildAnswer, Builds, BuildsNumbered}
 use Rattle.builder.specs.Late.{lateBuilt, lateRefusal, lateAnswer, BuildsLate, BuildsLateNumbered}
 use Rattle.builder.proofs.Theorems as building
@@ -250,14 +254,20 @@ late-numbered n ar ts ds room r out h =
     (lateTable n ar ts ds (length room)) (stored (lateBuilt n ar ts ds)) room out (h .answer) (h .bytes) (late-law n ar ts ds (length room))
 
 -- Distance: 1, 2, 8, 9. No distance is not a refusal.
-pub distance-numbers : (n : ℕ) (ms ds : List ℕ) (t D : ℕ) (r : Distance) → r ≡ answerOf n ms ds t D → GivenExactly (distanceNo r) (distanceTable n ms ds t D)
-distance-numbers n ms ds t D r e = subst (λ (a : Distance). GivenExactly (distanceNo a) (distanceTable n ms ds t D)) (sym e) (distance-law n ms ds t D)
+pub distance-numbers : (n : ℕ) (ms ds : List ℕ) (t D : ℕ) (r : Found) → r ≡ foundOf n ms ds t D → GivenExactly (distanceNo (r .answer)) (distanceTable n ms ds t D)
+distance-numbers n ms ds t D r e = subst (λ (a : Found). GivenExactly (distanceNo (a .answer)) (distanceTable n ms ds t D)) (sym e) (distance-law n ms ds t D)
 
--- the query as one number: 100 and the refusal's, and what is not refused is below that
-pub distance-numbered : (n : ℕ) (ms ds : List ℕ) (t D r : ℕ) → r ≡ distanceCode (answerOf n ms ds t D) → GivenExactly (r - 100) (distanceTable n ms ds t D)
+-- a refused query answers no lines
+pub distance-refused : (n : ℕ) (ms ds : List ℕ) (t D : ℕ) (r : Found) (w : QueryRefusal) → r ≡ foundOf n ms ds t D → r .answer ≡ Unanswered w → r ≡ found (Unanswered w) []
+distance-refused n ms ds t D r w e f =
+    let a = sym (ap (λ (x : Found). x .answer) e) ∙ f in
+    e ∙ ap₂ found a (distances.query-refused-lines n ms ds t D w (distances.query-refused n ms ds t D w .0 a))
+
+-- the query in numbers: 100 and the refusal's, and what is not refused is below that
+pub distance-numbered : (n : ℕ) (ms ds : List ℕ) (t D : ℕ) (r : FoundNumbers) → r ≡ foundCode (foundOf n ms ds t D) → GivenExactly (r .code - 100) (distanceTable n ms ds t D)
 unfolding answerOf
 distance-numbered n ms ds t D r e =
-    subst (λ (number : ℕ). GivenExactly number (distanceTable n ms ds t D)) (sym (ap (λ (k : ℕ). k - 100) e ∙ code (lookAt n ms ds t D) refl)) (distance-law n ms ds t D)
+    subst (λ (number : ℕ). GivenExactly number (distanceTable n ms ds t D)) (sym (ap (λ (x : FoundNumbers). x .code - 100) e ∙ code (lookAt n ms ds t D) refl)) (distance-law n ms ds t D)
   where
     below : (f g t b k : ℕ) (ls : List Line) → gapFrom f g t b ls ≡ gates k → k < g + f
     below zero g t b k ls e = let z : _≡_ {A = ℕ} 0 1 = cc in absurd (omega arith)

@@ -11,7 +11,7 @@ use lib.Bits.{differ}
 use lib.Dec.{leb}
 use lib.ListN.{length, getD, take, drop, replicate}
 use lib.Pow.{pow-mono}
-use lib.Seq.{take-at, drop-at}
+use lib.Seq.{take-at, drop-at, take-append-seam}
 use Rattle.circuit.specs.declared.Refusal.the-variants.{TooShallow, NoRoom}
 use Rattle.circuit.specs.declared.Answer.{Answer}
 use Rattle.circuit.specs.declared.Answer.the-variants.{Done, Refused}
@@ -30,11 +30,11 @@ use Rattle.distance.specs.declared.Refusal.{Refusal as QueryRefusal}
 use Rattle.distance.specs.declared.Refusal.the-variants.{Inputs, Lists, Mask, Depth}
 use Rattle.distance.specs.declared.Looked.{Looked}
 use Rattle.distance.specs.declared.Looked.the-variants.{Sound as Looks, Unsound}
-use Rattle.distance.specs.declared.Answer.{Answer as Distance}
+use Rattle.distance.specs.declared.Found.{Found}
 use Rattle.distance.specs.declared.Answer.the-variants.{Gates, Never}
 use Rattle.distance.specs.Base.{Line, Xor, baseOf, inputs, arriving, run, weight, Small, Program, Fewest, SetOf, Smallest}
-use Rattle.distance.specs.Distance.{gates, never, distance}
-use Rattle.distance.specs.Query.{lookAt, answered, answerOf, distanceNo, queryRefusalNo, whereSound}
+use Rattle.distance.specs.Distance.{gates, never, distance, FirstSmallest}
+use Rattle.distance.specs.Query.{lookAt, answered, answerOf, linesOf, foundOf, distanceNo, queryRefusalNo, whereSound}
 use Rattle.distance.proofs.Theorems as distances
 use Rattle.builder.specs.Rule.{rowsOf, lowest, sum, taken, xorGate, greedyCircuit}
 use Rattle.builder.specs.Call.{within, built, badRow, refusal, buildAnswer, Builds}
@@ -119,11 +119,21 @@ module _ (n : ℕ) (ls : List Line) (t D : ℕ) (small : Small n ls) (some : t �
   pub distance-no-set : (distance n ls t D ≡ never) ↔ ((k : ℕ) → SetOf ls k t (2 ^ D) → ⊥)
   distance-no-set = distances.none-is-no-set n ls t D small some
 
+-- the lines that stand beside an answer
+abbrev pub linesBeside : Found → List ℕ
+linesBeside r = take (r .count) (r .lines)
+
 -- What a query answers, where it is not refused.
-module _ (n : ℕ) (ms ds : List ℕ) (t D : ℕ) (r : Distance) (meets : r ≡ answerOf n ms ds t D) (fine : distanceNo r ≡ 0) where
+module _ (n : ℕ) (ms ds : List ℕ) (t D : ℕ) (r : Found) (meets : r ≡ foundOf n ms ds t D) (fine : distanceNo (r .answer) ≡ 0) where
+  answers : r .answer ≡ answerOf n ms ds t D
+  answers = ap (λ (f : Found). f .answer) meets
+
+  lines : linesBeside r ≡ linesOf n ms ds t D
+  lines = ap linesBeside meets ∙ take-append-seam (linesOf n ms ds t D) (replicate (8 - length (linesOf n ms ds t D)) 0)
+
   looks : lookAt n ms ds t D ≡ Looks
   unfolding answerOf
-  looks = by (lookAt n ms ds t D) (sym (ap distanceNo meets) ∙ fine)
+  looks = by (lookAt n ms ds t D) (sym (ap distanceNo answers) ∙ fine)
     where
       numbered : (w : QueryRefusal) → queryRefusalNo w ≡ 0 → ⊥
       numbered Inputs e = omega arith
@@ -135,11 +145,24 @@ module _ (n : ℕ) (ms ds : List ℕ) (t D : ℕ) (r : Distance) (meets : r ≡ 
       by Looks e = refl
       by (Unsound w) e = absurd (numbered w e)
 
-  pub query-fewest : (g : ℕ) → (r ≡ Gates g) ↔ Fewest (baseOf ms ds) t D g
-  query-fewest g = let q = distances.query-gates n ms ds t D looks g in (λ e. q .0 (sym meets ∙ e), λ f. meets ∙ q .1 f)
+  pub query-fewest : (g : ℕ) → (r .answer ≡ Gates g) ↔ Fewest (baseOf ms ds) t D g
+  query-fewest g = let q = distances.query-gates n ms ds t D looks g in (λ e. q .0 (sym answers ∙ e), λ f. answers ∙ q .1 f)
 
-  pub query-none : (r ≡ Never) ↔ ((h : ℕ) → Program (baseOf ms ds) h t D → ⊥)
-  query-none = let q = distances.query-never n ms ds t D looks in (λ e. q .0 (sym meets ∙ e), λ f. meets ∙ q .1 f)
+  pub query-none : (r .answer ≡ Never) ↔ ((h : ℕ) → Program (baseOf ms ds) h t D → ⊥)
+  query-none = let q = distances.query-never n ms ds t D looks in (λ e. q .0 (sym answers ∙ e), λ f. answers ∙ q .1 f)
+
+  -- The lines beside a distance are a set that makes the target within the depth, one more than the gates; no set is smaller, and no other of its
+  -- size comes before it.
+  pub query-lines : (g : ℕ) → r .answer ≡ Gates g → FirstSmallest (baseOf ms ds) t (2 ^ D) (suc g) (linesBeside r)
+  query-lines g e = subst (FirstSmallest (baseOf ms ds) t (2 ^ D) (suc g)) (sym lines) (distances.query-lines n ms ds t D looks g (sym answers ∙ e))
+
+  -- So they are those: there is one such list of numbers.
+  pub query-lines-only : (g : ℕ) → r .answer ≡ Gates g → (xs : List ℕ) → FirstSmallest (baseOf ms ds) t (2 ^ D) (suc g) xs → xs ≡ linesBeside r
+  query-lines-only g e xs f = distances.query-lines-only n ms ds t D g xs (linesBeside r) f (query-lines g e)
+
+  -- Where there is no distance there are none.
+  pub query-no-lines : r .answer ≡ Never → linesBeside r ≡ []
+  query-no-lines e = lines ∙ distances.query-no-lines n ms ds t D looks (sym answers ∙ e)
 
 -- ---- The builder, with late signals: each input has an arrival depth, each row a depth limit.
 
