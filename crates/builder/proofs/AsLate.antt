@@ -64,9 +64,9 @@ unfolding built lateBuilt
 built-late n ts D = ap₂ (greedyCircuit n) (sym (at-once n)) (sym (rows-alike D ts))
 
 -- ---- the refusals
-not-deep : (m : ℕ) (x : ℕ) → anyDeep (replicate (suc m) x) ≡ ltb 15 x
-not-deep zero x = or-false (ltb 15 x)
-not-deep (suc m) x = ap (λ (b : Bool). ltb 15 x || b) (not-deep m x) ∙ or-self (ltb 15 x)
+any-deep-same : (m : ℕ) (x : ℕ) → anyDeep (replicate (suc m) x) ≡ ltb 15 x
+any-deep-same zero x = or-false (ltb 15 x)
+any-deep-same (suc m) x = ap (λ (b : Bool). ltb 15 x || b) (any-deep-same m x) ∙ or-self (ltb 15 x)
 
 none-deep : (m : ℕ) → anyDeep (replicate m 0) ≡ false
 none-deep zero = refl
@@ -74,7 +74,7 @@ none-deep (suc m) = none-deep m
 
 deep-alike : (m x : ℕ) → 0 < m → anyDeep (replicate m x) ≡ ltb 15 x
 deep-alike zero x h = absurd (omega arith)
-deep-alike (suc m) x h = not-deep m x
+deep-alike (suc m) x h = any-deep-same m x
 
 over-fifteen : (D : ℕ) → not (ltb 15 D) ≡ leb D 15
 over-fifteen D = elim (decLt 15 D) [

@@ -13,7 +13,7 @@ use lib.ListN.{length, getD, drop, drop-of-length-le}
 use Rattle.circuit.proofs.Depths.{deeper-is}
 use Rattle.circuit.proofs.Lists.{drop-at-next}
 use Rattle.distance.specs.Base.{Line, baseOf, Xor, xor, made, Shallow}
-use Rattle.builder.specs.Rule.{Row, row, rowsOf, away, distances, sum, squares, makes, firstIn, firstPair, immediate, Best, best, better, scored, consider, alongLine, allPairs, bestPair, nextGate}
+use Rattle.builder.specs.Rule.{Row, row, rowsOf, away, distances, sum, squares, firstPair, immediate, Best, best, better, scored, consider, alongLine, allPairs, bestPair, nextGate}
 use Rattle.builder.proofs.Lists.{made-at, rows-at, rows-length}
 
 -- ---- one pair against the best so far
@@ -86,50 +86,13 @@ module _ (ls : List Line) (after after′ : Xor → List ℕ) (top : ℕ)
 pub best-eq : {s s′ q q′ i i′ j j′ : ℕ} → s ≡ s′ → q ≡ q′ → i ≡ i′ → j ≡ j′ → best s q (xor i j) ≡ best s′ q′ (xor i′ j′)
 best-eq p q u v = λ k. best (p k) (q k) (xor (u k) (v k))
 
--- ---- the pair (i, j) of two lists: w is its depth
-module _ (ms ds : List ℕ) (i j w : ℕ) (l : length ms ≡ length ds) (shallow : Shallow ds) (e : w ≡ min 255 (suc (max (getD ds i 0) (getD ds j 0)))) where
-  pub depth-at : made (baseOf ms ds) (xor i j) .depth ≡ w
-  depth-at = ap (λ (x : Line). x .depth) (made-at ms ds i j l) ∙ sym (deeper-is (getD ds i 0) (getD ds j 0) w (omega (arith, shallow i)) (omega (arith, shallow j)) e)
+-- ---- the pair (i, j) of two lists
+pub mask-at : (ms ds : List ℕ) (i j : ℕ) → length ms ≡ length ds → made (baseOf ms ds) (xor i j) .mask ≡ bitXor (getD ms i 0) (getD ms j 0)
+mask-at ms ds i j l = ap (λ (x : Line). x .mask) (made-at ms ds i j l)
 
-  mask-at : made (baseOf ms ds) (xor i j) .mask ≡ bitXor (getD ms i 0) (getD ms j 0)
-  mask-at = ap (λ (x : Line). x .mask) (made-at ms ds i j l)
-
-  pub makes-yes : (t D : ℕ) → bitXor (getD ms i 0) (getD ms j 0) ≡ t → w ≤ D → makes (row t D) (made (baseOf ms ds) (xor i j)) ≡ true
-  makes-yes t D p q = rw (eq-eqb (made (baseOf ms ds) (xor i j) .mask) t (mask-at ∙ p), le-leb (made (baseOf ms ds) (xor i j) .depth) D (omega (arith, depth-at)))
-
-  pub makes-deep : (t D : ℕ) → bitXor (getD ms i 0) (getD ms j 0) ≡ t → D < w → makes (row t D) (made (baseOf ms ds) (xor i j)) ≡ false
-  makes-deep t D p q = rw (eq-eqb (made (baseOf ms ds) (xor i j) .mask) t (mask-at ∙ p), lt-leb (made (baseOf ms ds) (xor i j) .depth) D (omega (arith, depth-at)))
-
-pub makes-other : (ms ds : List ℕ) (i j t D : ℕ) → length ms ≡ length ds → (bitXor (getD ms i 0) (getD ms j 0) ≡ t → ⊥) → makes (row t D) (made (baseOf ms ds) (xor i j)) ≡ false
-makes-other ms ds i j t D l p =
-    rw (ne-eqb (made (baseOf ms ds) (xor i j) .mask) t (λ q. p (sym (ap (λ (x : Line). x .mask) (made-at ms ds i j l)) ∙ q)))
-
--- ---- the first pair that makes a row
-module _ (ls : List Line) (r : Row) (e : ℕ) where
-  in-step : (f i j : ℕ) (g : Xor) (x : Bool) → 0 < f → makes r (made ls (xor i j)) ≡ x → firstIn ls r f i j g ≡ cond x (xor i j) (firstIn ls r (f - 1) i (j + 1) g)
-  in-step zero i j g x h p = absurd (omega arith)
-  in-step (suc f) i j g x h p = let q : suc f - 1 ≡ f = omega arith in rw (q, add-one, p)
-
-  pub in-hit : (i j : ℕ) (g : Xor) → j < e → makes r (made ls (xor i j)) ≡ true → firstIn ls r (e - j) i j g ≡ xor i j
-  in-hit i j g h p = in-step (e - j) i j g true (omega arith) p
-
-  pub in-miss : (i j : ℕ) (g : Xor) → j < e → makes r (made ls (xor i j)) ≡ false → firstIn ls r (e - j) i j g ≡ firstIn ls r (e - (j + 1)) i (j + 1) g
-  in-miss i j g h p = let q : e - j - 1 ≡ e - (j + 1) = omega arith in in-step (e - j) i j g false (omega arith) p ∙ rw q
-
-  pub in-end : (i j : ℕ) (g : Xor) → e ≤ j → firstIn ls r (e - j) i j g ≡ g
-  in-end i j g h = let q : e - j ≡ 0 = omega arith in rw q
-
-  open-step : (f i : ℕ) → 0 < f → firstPair ls r f i ≡ firstIn ls r (length ls - (i + 1)) i (i + 1) (firstPair ls r (f - 1) (i + 1))
-  open-step zero i h = absurd (omega arith)
-  open-step (suc f) i h = let q : suc f - 1 ≡ f = omega arith in rw (q, add-one)
-
-  pub pair-open : (i : ℕ) → length ls ≡ e → i < e → firstPair ls r (e - i) i ≡ firstIn ls r (e - (i + 1)) i (i + 1) (firstPair ls r (e - (i + 1)) (i + 1))
-  pair-open i l h =
-      let q : e - i - 1 ≡ e - (i + 1) = omega arith in
-      open-step (e - i) i (omega arith) ∙ ap₂ (λ (x y : ℕ). firstIn ls r (x - (i + 1)) i (i + 1) (firstPair ls r y (i + 1))) l q
-
-  pub pair-end : (i : ℕ) → e ≤ i → firstPair ls r (e - i) i ≡ xor 0 0
-  pair-end i h = let q : e - i ≡ 0 = omega arith in rw q
+-- w is its depth
+pub depth-at : (ms ds : List ℕ) (i j w : ℕ) → length ms ≡ length ds → Shallow ds → w ≡ min 255 (suc (max (getD ds i 0) (getD ds j 0))) → made (baseOf ms ds) (xor i j) .depth ≡ w
+depth-at ms ds i j w l shallow e = ap (λ (x : Line). x .depth) (made-at ms ds i j l) ∙ sym (deeper-is (getD ds i 0) (getD ds j 0) w (omega (arith, shallow i)) (omega (arith, shallow j)) e)
 
 -- ---- the rows: i of them are looked at, none is one gate away, and s is the sum of their distances
 pub record Passed (ls : List Line) (rs : List Row) (i s : ℕ) : Type 0 where
@@ -151,13 +114,13 @@ module _ (ls : List Line) (ts limits : List ℕ) (i s g : ℕ) (l : length ts �
   at-row : drop i rs ≡ here ∷ drop (i + 1) rs
   at-row = drop-at-next rs i (row 0 0) (omega (arith, rows-length ts limits l)) ∙ ap (λ (r : Row). r ∷ drop (i + 1) rs) (rows-at ts limits i l)
 
-  opened : (x : Bool) → eqb g 1 ≡ x → nextGate ls rs ≡ cond x (firstPair ls here (length ls) 0) (immediate ls (drop (i + 1) rs) (bestPair ls rs))
+  opened : (x : Bool) → eqb g 1 ≡ x → nextGate ls rs ≡ cond x (firstPair ls here) (immediate ls (drop (i + 1) rs) (bestPair ls rs))
   opened x p =
       w .other
       ∙ ap (λ (l : List Row). immediate ls l (bestPair ls rs)) at-row
-      ∙ ap (λ (y : Bool). cond y (firstPair ls here (length ls) 0) (immediate ls (drop (i + 1) rs) (bestPair ls rs))) (ap (λ (k : ℕ). eqb k 1) (sym e) ∙ p)
+      ∙ ap (λ (y : Bool). cond y (firstPair ls here) (immediate ls (drop (i + 1) rs) (bestPair ls rs))) (ap (λ (k : ℕ). eqb k 1) (sym e) ∙ p)
 
-  pub passed-hit : g ≡ 1 → nextGate ls rs ≡ firstPair ls here (length ls) 0
+  pub passed-hit : g ≡ 1 → nextGate ls rs ≡ firstPair ls here
   passed-hit p = opened true (eq-eqb g 1 p)
 
   row-sum : sum (distances ls (drop i rs)) ≡ g + sum (distances ls (drop (i + 1) rs))

@@ -6,15 +6,16 @@ use mathlib.Core.Path.{_≡_, refl, sym, ap, _∙_, subst}
 use Prim.Native.Nat.{ℕ, zero, suc, _+_, _-_, _≤_, _<_}
 use native.Mathlib.Decide.{ℕ-discrete}
 use native.Mathlib.Omega.{arith}
-use borrow.Author.Tests.{le-leb, leb-true, eqb-true, eqb-false, eq-eqb, ltb-true, ltb-false}
+use borrow.Author.Tests.{le-leb, leb-true, eqb-true, eqb-false, ltb-true, ltb-false}
 use lib.Dec.{leb, ltb, eqb}
 use lib.ListN.{length}
 use Rattle.distance.specs.Base.{Line, Xor, xor, made, run, Reads, Program}
 use Rattle.distance.specs.Distance.{gates}
 use Rattle.distance.proofs.Tests.{clash, both-cases}
-use Rattle.builder.specs.Rule.{Row, reach, count, away, distances, sum, deepest, makes, firstIn, firstPair, immediate, Best, start, better, scored, consider, alongLine, allPairs, distancesAfter, bestPair, nextGate, greedy}
+use Rattle.builder.specs.Rule.{Row, reach, count, away, distances, sum, deepest, firstPair, immediate, Best, start, better, scored, consider, alongLine, allPairs, distancesAfter, bestPair, nextGate, greedy}
 use Rattle.builder.specs.Kept.{SoundRow, SoundRows, Alive}
-use Rattle.builder.proofs.Reach.{reach-lt, reach-fewest, reach-more, reach-program, reach-pair, now-made, last-makes}
+use Rattle.builder.proofs.Reach.{reach-can, reach-lt, reach-more, reach-program, reach-pair, now-made}
+use Rattle.builder.proofs.TwoLines.{first-makes}
 
 -- a row is among the rows
 pub data In (r : Row) : List Row → Type 0 where
@@ -142,42 +143,6 @@ module _ (ls : List Line) (rs : List Row) where
         fair = r .fair;
       }
 
--- ---- the first pair that makes a row
-module _ (ls : List Line) (u : Row) where
-  record Good (g : Xor) : Type 0 where
-    it : makes u (made ls g) ≡ true
-    one : g .a < length ls
-    two : g .b < length ls
-
-  first-ok : (f i j : ℕ) (g : Xor) → i < length ls → j + f ≤ length ls → Good g → Good (firstIn ls u f i j g)
-  first-ok zero i j g hi hj q = q
-  first-ok (suc f) i j g hi hj q = go (makes u (made ls (xor i j))) refl (first-ok f i (suc j) g hi (omega arith) q)
-    where
-      go : (x : Bool) → makes u (made ls (xor i j)) ≡ x → Good (firstIn ls u f i (suc j) g) → Good (cond x (xor i j) (firstIn ls u f i (suc j) g))
-      go true e r = record { it = e; one = hi; two = omega arith }
-      go false e r = r
-
-  first-hit : (f i j v : ℕ) (g : Xor) → i < length ls → j + f ≤ length ls → j ≤ v → v < j + f → makes u (made ls (xor i v)) ≡ true → Good (firstIn ls u f i j g)
-  first-hit zero i j v g hi hj p q e = absurd (omega arith)
-  first-hit (suc f) i j v g hi hj p q e = go (makes u (made ls (xor i j))) refl (λ h. first-hit f i (suc j) v g hi (omega arith) h (omega arith) e)
-    where
-      go : (x : Bool) → makes u (made ls (xor i j)) ≡ x → (suc j ≤ v → Good (firstIn ls u f i (suc j) g)) → Good (cond x (xor i j) (firstIn ls u f i (suc j) g))
-      go true w r = record { it = w; one = hi; two = omega arith }
-      go false w r =
-          elim (ℕ-discrete j v) [
-            | yes s ↦ absurd (clash (makes u (made ls (xor i j))) (ap (λ (y : ℕ). makes u (made ls (xor i y))) s ∙ e) w)
-            | no s ↦ r (omega arith)
-          ]
-
-  first-pair : (f i x v : ℕ) → i + f ≤ length ls → i ≤ x → x < i + f → x < v → v < length ls → makes u (made ls (xor x v)) ≡ true → Good (firstPair ls u f i)
-  first-pair zero i x v h p q r s e = absurd (omega arith)
-  first-pair (suc f) i x v h p q r s e =
-      elim (ℕ-discrete i x) [
-        | yes w ↦
-            first-hit (length ls - suc i) i (suc i) v (firstPair ls u f (suc i)) (omega arith) (omega arith) (omega arith) (omega arith) (ap (λ (y : ℕ). makes u (made ls (xor y v))) w ∙ e)
-        | no w ↦ first-ok (length ls - suc i) i (suc i) (firstPair ls u f (suc i)) (omega arith) (omega arith) (first-pair f (suc i) x v (omega arith) (omega arith) (omega arith) r s e)
-      ]
-
 -- ---- the next gate
 
 -- a row that is not made yet
@@ -219,30 +184,22 @@ module _ (ls : List Line) (rs : List Row) (sound : SoundRows rs) (alive : Alive 
       let o = w .own (p .i) (p .j) (omega arith) (omega (arith, p .order, p .within)) (p .order) (p .within) (omega (arith, p .depth, limit-le (r .in-it))) in
       ⊎-elim (λ y. absurd (omega (arith, y, o, q, cap))) (λ y. record { less = omega (arith, y .is, o, q); one = y .one; two = y .two; deep = y .deep }) (w .fair)
 
-  one-less : (u : Row) → In u rs → reach ls u ≡ gates 1 → Less ls rs (firstPair ls u (length ls) 0)
+  one-less : (u : Row) → In u rs → reach ls u ≡ gates 1 → Less ls rs (firstPair ls u)
   one-less u i e =
-      let ok = sound-in sound i in
-      let p = reach-pair ls u ok 0 e in
-      let pair = xor (p .i) (p .j) in
-      let m = last-makes ls (made ls pair) (u .mask) (u .limit) (reach-fewest ls u ok 1 e .least) (p .program) in
-      let t : makes u (made ls pair) ≡ true = rw (eq-eqb (made ls pair .mask) (u .mask) (m .0), le-leb (made ls pair .depth) (u .limit) (m .1)) in
-      let g = first-pair ls u (length ls) 0 (p .i) (p .j) (omega arith) (omega arith) (omega (arith, p .order, p .within)) (p .order) (p .within) t in
-      let k = firstPair ls u (length ls) 0 in
-      let b = both-cases (eqb (made ls k .mask) (u .mask)) (leb (made ls k .depth) (u .limit)) (g .it) in
-      let mask = eqb-true (made ls k .mask) (u .mask) (b .0) in
-      let depth = leb-true (made ls k .depth) (u .limit) (b .1) in
+      let g = firstPair ls u in
+      let p = first-makes ls u (reach-can ls u 1 e .0) in
       record {
-        less = nearer u 0 k i e (now-made ls (made ls k) (u .mask) (u .limit) mask depth);
-        one = g .one;
-        two = g .two;
-        deep = omega (arith, depth, limit-le i);
+        less = nearer u 0 g i e (now-made ls (made ls g) (u .mask) (u .limit) (p .mask) (p .depth));
+        one = omega (arith, p .order, p .within);
+        two = p .within;
+        deep = omega (arith, p .depth, limit-le i);
       }
 
   immediate-less : (us : List Row) → ((u : Row) → In u us → In u rs) → Alive ls us → (g : Xor) → Less ls rs g → Less ls rs (immediate ls us g)
   immediate-less [] f al g q = q
   immediate-less (u ∷ us) f al g q = go (eqb (away ls u) 1) refl (immediate-less us (λ v i. f v (there i)) (al .1) g q)
     where
-      go : (x : Bool) → eqb (away ls u) 1 ≡ x → Less ls rs (immediate ls us g) → Less ls rs (cond x (firstPair ls u (length ls) 0) (immediate ls us g))
+      go : (x : Bool) → eqb (away ls u) 1 ≡ x → Less ls rs (immediate ls us g) → Less ls rs (cond x (firstPair ls u) (immediate ls us g))
       go true e r =
           let c : al .0 .0 ≡ 1 = sym (ap count (al .0 .1)) ∙ eqb-true (away ls u) 1 e in
           one-less u (f u here) (al .0 .1 ∙ ap gates c)

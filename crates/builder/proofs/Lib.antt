@@ -3,6 +3,7 @@ pub mod Theorems
 pub mod Examples
 pub mod Reach
 pub mod Lookup
+pub mod TwoLines
 pub mod Ends
 pub mod Lists
 pub mod KeptUp

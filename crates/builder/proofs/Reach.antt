@@ -3,13 +3,12 @@ use mathlib.Core.Bool.{Bool, true, false, cond}
 use mathlib.Core.List.{List, [], _∷_, _++_}
 use mathlib.Core.Path.{_≡_, refl, sym, ap, _∙_, subst}
 use Prim.Native.Nat.{ℕ, suc, _+_, _^_, _≤_, _<_}
-use native.Mathlib.Decide.{decLt}
 use native.Mathlib.Omega.{arith}
 use borrow.Author.Tests.{le-leb, leb-true}
-use lib.ListN.{length, getD, length-append, List·getD-append}
+use lib.ListN.{length, length-append}
 use lib.Seq.{getD-append-seam}
 use lib.Pow.{pow-mono}
-use Rattle.distance.specs.Base.{Line, none, Xor, made, Makes, Program, Fewest}
+use Rattle.distance.specs.Base.{Line, none, Xor, made, Program, Fewest}
 use Rattle.distance.specs.Distance.{Gap, gates, never, can}
 use Rattle.distance.specs.Table.{far, leastSum}
 use Rattle.distance.proofs.Tests.{clash}
@@ -128,22 +127,3 @@ now-made ls l t D p q =
             depth = subst (λ (x : Line). x .depth ≤ D) (sym e) q;
           };
     }
-
--- and where the base before it had none, such a program names that line
-pub last-makes : (ls : List Line) (l : Line) (t D : ℕ) → ((h : ℕ) → Program ls h t D → 1 ≤ h) → Program (ls ++ (l ∷ [])) 0 t D → (l .mask ≡ t) × (l .depth ≤ D)
-last-makes ls l t D f p = ends (p .gates) (p .count) (p .makes)
-  where
-    ends : (gs : List Xor) → length gs ≡ 0 → Makes (ls ++ (l ∷ [])) gs t D → (l .mask ≡ t) × (l .depth ≤ D)
-    ends (g ∷ gs) z m = absurd (omega arith)
-    ends [] z m =
-        elim (decLt (m .at) (length ls)) [
-          | yes w ↦
-              absurd
-              (let e = List·getD-append ls (l ∷ []) none (m .at) w in
-              let k = f 0 (record { gates = []; count = refl; makes = record { reads = tt; at = m .at; within = w; mask = ap (λ (x : Line). x .mask) (sym e) ∙ m .mask; depth = subst (λ (x : Line). x .depth ≤ D) e (m .depth) } }) in
-              omega arith)
-          | no w ↦
-              let a : m .at ≡ length ls = omega (arith, m .within, length-append ls (l ∷ [])) in
-              let e : getD (ls ++ (l ∷ [])) (m .at) none ≡ l = ap (λ (x : ℕ). getD (ls ++ (l ∷ [])) x none) a ∙ getD-append-seam ls l [] none in
-              (ap (λ (x : Line). x .mask) (sym e) ∙ m .mask, subst (λ (x : Line). x .depth ≤ D) e (m .depth))
-        ]

@@ -3,7 +3,7 @@ use mathlib.Core.Bool.{true, false}
 use mathlib.Core.List.{List, [], _∷_, map}
 use mathlib.Core.Logic.{_↔_}
 use mathlib.Core.Path.{_≡_, refl, sym, ap, _∙_, subst}
-use Prim.Native.Nat.{ℕ, zero, suc, _-_, _≤_, _<_}
+use Prim.Native.Nat.{ℕ, zero, suc, _-_, _^_, _≤_, _<_}
 use native.Mathlib.Omega.{arith}
 use lib.ListN.{length, getD, replicate, length-replicate}
 use Rattle.circuit.specs.declared.Answer.the-variants.{Done, Refused}
@@ -16,12 +16,15 @@ use Rattle.stored.specs.Reading.{readStored}
 use Rattle.stored.specs.Reading.Outcome.{found}
 use Rattle.stored.proofs.Round.{read-stored}
 use Rattle.distance.specs.Base.{Line, Xor, arriving, weight}
-use Rattle.builder.specs.Rule.{Row, rowsOf, distances, sum, nextGate, taken, xorGate, greedyCircuit}
+use Rattle.distance.specs.Distance.{can, gates, distance, numbers, Leads, firstSet}
+use Rattle.distance.proofs.Fewest.{first-gates}
+use Rattle.builder.specs.Rule.{Row, rowsOf, distances, sum, firstPair, nextGate, taken, xorGate, greedyCircuit}
 use Rattle.builder.specs.Call.{built, badRow, tooHeavy, refusal}
 use Rattle.builder.specs.Late.{lateBuilt, tooLate, lateRefusal}
 use Rattle.builder.specs.Matrix.{Computes, ComputesLate, depthFrom}
 use Rattle.builder.specs.Kept.{SoundRows, Alive}
 use Rattle.builder.proofs.Refusals.{Ahead, accepted}
+use Rattle.builder.proofs.TwoLines as two
 use Rattle.builder.proofs.Ends as ends
 use Rattle.builder.proofs.Solved as solved
 use Rattle.builder.proofs.Promise as promise
@@ -30,6 +33,23 @@ use Rattle.builder.proofs.AsLate.{atOnce, alike, built-late, refusal-la
 -- ---- The rule ends: where every row has a distance, a step takes a gate that reads two lines, is no deeper than the greatest limit, and makes the sum of the distances fall.
 pub each-step-falls : (ls : List Line) (rs : List Row) → SoundRows rs → Alive ls rs → sum (distances ls rs) ≤ 4096 → 0 < sum (distances ls rs) → ends.Less ls rs (nextGate ls rs)
 each-step-falls = ends.next-less
+
+-- ---- Where a row is one gate away, the rule takes the first pair of lines making it. That pair is the first set of two lines for the row:
+module _ (ls : List Line) (r : Row) (near : distance 8 ls (r .mask) (r .limit) ≡ gates 1) where
+  some-two : can 2 (r .mask) (2 ^ (r .limit)) ls ≡ true
+  some-two = first-gates (r .mask) (2 ^ (r .limit)) ls 8 0 1 near .0
+
+  -- its line numbers are those of the set,
+  pub first-pair-is-set : numbers 0 ls (firstSet 2 (r .mask) (2 ^ (r .limit)) ls) ≡ firstPair ls r .a ∷ firstPair ls r .b ∷ []
+  first-pair-is-set = two.first-numbers ls r some-two
+
+  -- the gate that reads them makes the row within its limit,
+  pub first-pair-makes : two.PairFor ls r (firstPair ls r)
+  first-pair-makes = two.first-makes ls r some-two
+
+  -- and no pair that makes it has a lower first line, or the same and a lower second.
+  pub first-pair-is-first : (g : Xor) → two.PairFor ls r g → Leads (firstPair ls r .a ∷ firstPair ls r .b ∷ []) (g .a ∷ g .b ∷ [])
+  first-pair-is-first = two.first-among ls r some-two
 
 -- ---- A call with late signals that nothing refuses.
 module _ (n : ℕ) (ar ts ds : List ℕ) (ok : lateRefusal n ar ts ds ≡ Done) where

@@ -15,8 +15,8 @@ use Rattle.builder.specs.Rule.{Row, row, rowsOf, away, distances, sum, s
 use Rattle.builder.specs.Kept.{misses, lookUp, goalsAfter, goalsWith, toGo, placeOf, roomOf, lowOf, Goals, Aimed, Choosing, Weighing}
 use Rattle.builder.proofs.Reach.{away-lt}
 use Rattle.builder.proofs.Goals.{Missed, Alike, alike, are-goals}
-use Rattle.builder.proofs.Lists.{made-at, lines-length, rows-length, rows-at, rows-limits, greatest-below}
-use Rattle.builder.proofs.Choice.{depth-at, consider-deep, consider-over, consider-done, same-pairs}
+use Rattle.builder.proofs.Lists.{lines-length, rows-length, rows-at, rows-limits, greatest-below}
+use Rattle.builder.proofs.Choice.{mask-at, depth-at, consider-deep, consider-over, consider-done, same-pairs}
 
 -- the goals' distances sum to little
 pub low-sum : (gs : List ℕ) → ((i : ℕ) → getD gs i 0 < 8) → sum gs ≤ 8 * length gs
@@ -39,7 +39,7 @@ module _ (ms ds ps fs gs h : List ℕ) (i j w c : ℕ) (l : length ms ≡ length
 
   after-is : after (xor i j) ≡ goalsAfter (misses h m c) ps fs gs
   after-is =
-      ap₂ (λ (x y : ℕ). goalsAfter (misses h x y) ps fs gs) (ap (λ (x : Line). x .mask) (made-at ms ds i j l)) (ap (λ (x : ℕ). 2 ^ x) deep ∙ sym ec)
+      ap₂ (λ (x y : ℕ). goalsAfter (misses h x y) ps fs gs) (mask-at ms ds i j l) (ap (λ (x : ℕ). 2 ^ x) deep ∙ sym ec)
 
   pub pair-deep : top < w → consider ls after top (xor i j) b ≡ b
   pair-deep p = consider-deep ls after top (xor i j) b (omega (arith, deep))

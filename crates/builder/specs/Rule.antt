@@ -1,12 +1,12 @@
 -- The greedy rule of "The builder": over a base of lines, and for rows that have a limit each, which gates are taken and which lines the outputs name.
 use mathlib.Core.Bool.{Bool, cond, _&&_, _||_}
 use mathlib.Core.List.{List, [], _∷_, _++_, map}
-use Prim.Native.Nat.{ℕ, zero, suc, _+_, _-_, _*_}
+use Prim.Native.Nat.{ℕ, zero, suc, _+_, _-_, _*_, _^_}
 use lib.Dec.{leb, ltb, eqb}
 use lib.ListN.{length}
 use Rattle.circuit.specs.Lines.{Gate, Listing, gate, listing, greatest}
 use Rattle.distance.specs.Base.{Line, Xor, xor, made, run}
-use Rattle.distance.specs.Distance.{Gap, gates, never, distance}
+use Rattle.distance.specs.Distance.{Gap, gates, never, distance, numbers, firstSet}
 
 -- a row: the mask of the inputs that are summed into an output, and the depth that the output may have
 pub record Row : Type 0 where
@@ -54,31 +54,25 @@ squares (x ∷ xs) = x * x + squares xs
 abbrev pub deepest : List Row → ℕ
 deepest rs = greatest (map (λ (r : Row). r .limit) rs)
 
--- a line makes a row: it has the row's mask, and is within its limit
-abbrev pub makes : Row → Line → Bool
-makes r l = eqb (l .mask) (r .mask) && leb (l .depth) (r .limit)
-
 -- ---- a row has distance 1: the lowest such row, and the first pair of lines making it
-module _ (ls : List Line) where
-  -- of the f pairs (i, j), (i, j + 1) and so on, the first that makes r; or g
-  abbrev pub firstIn : Row → ℕ → ℕ → ℕ → Xor → Xor
-  firstIn r zero i j g = g
-  firstIn r (suc f) i j g =
-      let more = firstIn r f i (suc j) g in
-      cond (makes r (made ls (xor i j))) (xor i j) more
 
-  -- of the pairs (i, j) with i < j, ordered by i, then j, whose first line is one of f from i on
-  abbrev pub firstPair : Row → ℕ → ℕ → Xor
-  firstPair r zero i = xor 0 0
-  firstPair r (suc f) i = let more = firstPair r f (suc i) in firstIn r (length ls - suc i) i (suc i) more
+-- the gate that reads the first two of some lines; lines 0 and 0 where there are no two
+abbrev pub pairOf : List ℕ → Xor
+pairOf [] = xor 0 0
+pairOf (i ∷ []) = xor 0 0
+pairOf (i ∷ j ∷ xs) = xor i j
 
-  -- the lowest row of distance 1 and its first pair; or g
-  abbrev pub immediate : List Row → Xor → Xor
-  immediate [] g = g
-  immediate (r ∷ rs) g =
-      let more = immediate rs g in
-      let pair = firstPair r (length ls) 0 in
-      cond (eqb (away ls r) 1) pair more
+-- the first pair of lines making a row: the first set of two lines for its mask, within its limit
+abbrev pub firstPair : List Line → Row → Xor
+firstPair ls r = pairOf (numbers 0 ls (firstSet 2 (r .mask) (2 ^ (r .limit)) ls))
+
+-- the lowest row of distance 1 and its first pair; or g
+abbrev pub immediate : List Line → List Row → Xor → Xor
+immediate ls [] g = g
+immediate ls (r ∷ rs) g =
+    let more = immediate ls rs g in
+    let pair = firstPair ls r in
+    cond (eqb (away ls r) 1) pair more
 
 -- ---- otherwise: the pair giving the smallest sum of distances afterwards; on a tie, the largest sum of their squares; on a further tie, the first pair
 
@@ -148,6 +142,10 @@ greedy (suc f) ls rs =
 -- all the gates: the rows are made by at most 224 (shut, or the number of steps would be unfolded wherever it stands)
 unfoldable pub taken : List Line → List Row → List Xor
 taken ls rs = greedy 224 ls rs
+
+-- a line makes a row: it has the row's mask, and is within its limit
+abbrev pub makes : Row → Line → Bool
+makes r l = eqb (l .mask) (r .mask) && leb (l .depth) (r .limit)
 
 -- the row's lowest line, of lines that are numbered from i on
 abbrev pub lowestFrom : Row → ℕ → List Line → ℕ

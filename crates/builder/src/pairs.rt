@@ -201,10 +201,10 @@ fn best_pair(
     }
 }
 
-// The first pair of lines that makes a row within its limit; lines 0 and 0 where there is none.
+// The first pair of lines that makes a row within its limit, which is the first set of two; lines 0 and 0 where there is none.
 fn first_pair(masks: &[u32], depths: &[u8], t: u32, limit: u8) -> Pair
     requires { ⌜ length (now masks) ≡ length (now depths) ⌝ ∗ ⌜ Shallow (now depths) ⌝ }
-    ensures { λ r. ⌜ firstPair (baseOf (now (masks .entry)) (now (depths .entry))) (row t limit) (length (now (masks .entry))) 0 ≡ xor (r .a) (r .b) ⌝ }
+    ensures { λ r. ⌜ firstPair (baseOf (now (masks .entry)) (now (depths .entry))) (row t limit) ≡ xor (r .a) (r .b) ⌝ }
 {
     for i in 0..masks.len() {
         for j in i + 1..masks.len() {

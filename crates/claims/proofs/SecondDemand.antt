@@ -33,10 +33,10 @@ use Rattle.distance.specs.declared.Looked.the-variants.{Sound as Looks, Unsound
 use Rattle.distance.specs.declared.Found.{Found}
 use Rattle.distance.specs.declared.Answer.the-variants.{Gates, Never}
 use Rattle.distance.specs.Base.{Line, Xor, baseOf, inputs, arriving, run, weight, Small, Program, Fewest, SetOf, Smallest}
-use Rattle.distance.specs.Distance.{gates, never, distance, FirstSmallest}
+use Rattle.distance.specs.Distance.{gates, never, distance, numbers, firstSet, FirstSmallest}
 use Rattle.distance.specs.Query.{lookAt, answered, answerOf, linesOf, foundOf, distanceNo, queryRefusalNo, whereSound}
 use Rattle.distance.proofs.Theorems as distances
-use Rattle.builder.specs.Rule.{rowsOf, lowest, sum, taken, xorGate, greedyCircuit}
+use Rattle.builder.specs.Rule.{Row, firstPair, rowsOf, lowest, sum, taken, xorGate, greedyCircuit}
 use Rattle.builder.specs.Call.{within, built, badRow, refusal, buildAnswer, Builds}
 use Rattle.builder.specs.Late.{lateBuilt, lateRefusal, lateAnswer, BuildsLate}
 use Rattle.builder.specs.Matrix.{Computes, ComputesLate, depthFrom}
@@ -163,6 +163,11 @@ module _ (n : ℕ) (ms ds : List ℕ) (t D : ℕ) (r : Found) (meets : r ≡ fou
   -- Where there is no distance there are none.
   pub query-no-lines : r .answer ≡ Never → linesBeside r ≡ []
   query-no-lines e = lines ∙ distances.query-no-lines n ms ds t D looks (sym answers ∙ e)
+
+-- ---- The first pair that the rule takes for a row one gate away is the query's set of two lines: the same numbers.
+pub first-pair-is-set : (ls : List Line) (r : Row) → distance 8 ls (r .mask) (r .limit) ≡ gates 1
+    → numbers 0 ls (firstSet 2 (r .mask) (2 ^ (r .limit)) ls) ≡ firstPair ls r .a ∷ firstPair ls r .b ∷ []
+first-pair-is-set = building.first-pair-is-set
 
 -- ---- The builder, with late signals: each input has an arrival depth, each row a depth limit.
 

@@ -1,13 +1,13 @@
 -- `next_gate` meets its contract: the rows that were passed are not one gate away.
-use mathlib.Core.Path.{_≡_, sym, ap, _∙_}
+use mathlib.Core.Path.{_≡_, sym, _∙_}
 use Prim.Native.Nat.{ℕ, _-_}
 use native.Mathlib.Omega.{arith}
 use borrow.Author.Needs.{needs}
 use borrow.Author.Tests.{eq-eqb, ne-eqb}
 use lib.ListN.{getD}
 use Rattle.distance.specs.Base.{baseOf}
-use Rattle.builder.specs.Rule.{row, rowsOf, firstPair}
-use Rattle.builder.proofs.Lists.{lines-length, rows-length}
+use Rattle.builder.specs.Rule.{rowsOf}
+use Rattle.builder.proofs.Lists.{rows-length}
 use Rattle.builder.proofs.Choice.{Passed, passed-start, passed-hit, passed-some, passed-more, passed-total, passed-best}
 use Rattle.builder.proofs.Weighed.{gaps-length, gap-at, gap-small}
 use Rattle.builder.proofs.pairs.next_gate.Statement.{statement}
@@ -50,7 +50,7 @@ returns c =
       over-is = passed-some ls (a .rows .now) (a .limits .now) i (c .before .before .before .before .before .before .loop .sum) (getD (a .gaps .now) i 0) (z .paired) (c .before .before .before .before .before .loop-test .taken) g (c .before .before .before .before .before .before .loop .inv) (c .before .before .before .if1 .taken);
       pair = λ o.
           passed-hit ls (a .rows .now) (a .limits .now) i (c .before .before .before .before .before .before .loop .sum) (getD (a .gaps .now) i 0) (z .paired) (c .before .before .before .before .before .loop-test .taken) g (c .before .before .before .before .before .before .loop .inv) (c .before .before .before .if1 .taken)
-          ∙ ap (λ (e : ℕ). firstPair ls (row (getD (a .rows .now) i 0) (getD (a .limits .now) i 0)) e 0) (lines-length (a .masks .now) (a .depths .now) (z .even)) ∙ c .first-pair .ensures;
+          ∙ c .first-pair .ensures;
     }
 
 cast-sum : tie.Need-cast-sum Inv-loop μ-loop
