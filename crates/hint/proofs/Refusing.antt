@@ -1,0 +1,127 @@
+-- Which hints are refused in a state that keeps every rule: of a row that is there, those whose depth is above 15, and no others. Assumes nothing.
+use mathlib.Core.Path.{_≡_, refl, ap, ap₂, _∙_, sym, subst}
+use mathlib.Core.Bool.{Bool, true, false, not, _||_, _&&_}
+use mathlib.Core.List.{List, [], _∷_, List·Memᴰ, List·Memᴰ·not-nil}
+use Prim.Native.Nat.{ℕ, zero, suc, _+_, _^_, _≤_, _<_}
+use native.Mathlib.Omega.{arith}
+use borrow.Author.Tests.{lt-ltb, le-ltb, lt-leb, eq-eqb, ne-eqb, eqb-true, ltb-true}
+use lib.Dec.{leb, ltb, eqb}
+use lib.ListN.{length, getD, replicate, length-map, length-replicate}
+use Rattle.circuit.specs.declared.Answer.the-variants.{Done}
+use Rattle.circuit.specs.declared.Refusal.{Refusal}
+use Rattle.circuit.specs.declared.Refusal.the-variants.{TooDeep}
+use Rattle.circuit.specs.Lines.{Listing, gateAt, lines, depths, depthStep}
+use Rattle.circuit.specs.Rules.{allOf, listingAnswer}
+use Rattle.circuit.proofs.LineLaws.{lines-length, lines-more}
+use Rattle.circuit.proofs.RuleLaws.{CircuitFits, circuit-fits}
+use Rattle.circuit.proofs.Shapes.{both}
+use Rattle.distance.specs.declared.Refusal.the-variants.{Inputs, Lists, Mask, Depth}
+use Rattle.distance.specs.declared.Looked.{Looked}
+use Rattle.distance.specs.declared.Looked.the-variants.{Sound as Asked}
+use Rattle.distance.specs.Base.{baseOf}
+use Rattle.distance.specs.Distance.{Gap, gates, never, distance}
+use Rattle.distance.specs.Query.{anyFrom, refuse, lookAt, answered, whereSound, answerOf}
+use Rattle.targets.specs.Target.{Target, matrix, isMatrix, rowFits, targetFits}
+use Rattle.bench.specs.State.{State, Sound}
+use Rattle.hint.specs.declared.Answer.the-variants.{Refused}
+use Rattle.hint.specs.Hint.{masksOf, depthsOf, shallow, picked, hintAnswer, hintFor}
+use Rattle.hint.proofs.Choosing.{Each, each-of, shallow-in, shallow-has}
+use Rattle.hint.proofs.Computing.{masks-small}
+use Rattle.hint.proofs.Gathering.{shallow-few}
+
+-- ---- lists
+
+any-none : (b : ℕ) (xs : List ℕ) → Each (λ (x : ℕ). x < b) xs → anyFrom b xs ≡ false
+any-none b [] e = refl
+any-none b (x ∷ xs) e = ap₂ _||_ (lt-leb b x (e .0)) (any-none b xs (e .1))
+
+picked-each : (P : ℕ → Type 0) (xs is : List ℕ) → Each (λ (i : ℕ). P (getD xs i 0)) is → Each P (picked is xs)
+picked-each P xs [] e = tt
+picked-each P xs (i ∷ is) e = (e .0, picked-each P xs is (e .1))
+
+some-there : (k : ℕ) (xs : List ℕ) → List·Memᴰ k xs → 0 < length xs
+some-there k [] m = absurd (List·Memᴰ·not-nil m)
+some-there k (x ∷ xs) m = omega arith
+
+all-there : (p : ℕ → Bool) (xs : List ℕ) (j : ℕ) → allOf p xs ≡ true → j < length xs → p (getD xs j 0) ≡ true
+unfolding allOf
+all-there p [] j e h = absurd (omega arith)
+all-there p (x ∷ xs) zero e h = both (p x) e .0
+all-there p (x ∷ xs) (suc j) e h = all-there p xs j (both (p x) e .1) (omega arith)
+
+-- ---- the query of a row over a circuit's lines
+
+module _ (only : Bool) (c : Listing) (ok : listingAnswer only c ≡ Done) (t D : ℕ) (row : rowFits (c .inputs) t ≡ true) where
+  abbrev is : List ℕ
+  is = shallow (depthsOf c)
+
+  abbrev ms : List ℕ
+  ms = picked is (masksOf c)
+
+  abbrev ds : List ℕ
+  ds = picked is (depthsOf c)
+
+  f : CircuitFits only c
+  f = circuit-fits only c ok
+
+  lines-many : length (depthsOf c) ≡ c .inputs + length (c .gates)
+  lines-many = lines-length depthStep 0 (replicate (c .inputs) 0) (gateAt c) (length (c .gates)) ∙ ap (λ (k : ℕ). k + length (c .gates)) (length-replicate (c .inputs) 0)
+
+  -- an input is there, at depth 0
+  first-line : (n : ℕ) → 1 ≤ n → getD (depths n (gateAt c) (length (c .gates))) 0 0 ≡ 0
+  unfolding lines
+  first-line zero h = absurd (omega arith)
+  first-line (suc n) h = lines-more depthStep 0 (replicate (suc n) 0) (gateAt c) 0 0 (omega arith) (length (c .gates)) (omega arith)
+
+  some-line : 0 < length is
+  some-line = some-there 0 is (shallow-has (depthsOf c) 0 (omega (arith, lines-many, f .shape .n-least)) (omega (arith, first-line (c .inputs) (f .shape .n-least))))
+
+  pub look-is : lookAt (c .inputs) ms ds t D ≡ refuse (ltb 15 D) Depth Asked
+  unfolding lookAt rowFits
+  look-is =
+      let n = c .inputs in
+      let shape = f .shape in
+      let lm = length-map is (λ (i : ℕ). getD (masksOf c) i 0) in
+      let ld = length-map is (λ (i : ℕ). getD (depthsOf c) i 0) in
+      let n-low = le-ltb n 1 (shape .n-least) in
+      let n-high = le-ltb 8 n (shape .n-most) in
+      let even = ap not (eq-eqb (length ms) (length ds) (lm ∙ sym ld)) in
+      let some = ne-eqb (length ms) 0 (λ e. omega (arith, lm, some-line)) in
+      let few = le-ltb 256 (length ms) (omega (arith, lm, shallow-few (depthsOf c), lines-many, shape .n-most, shape .g-most)) in
+      let small = any-none (2 ^ n) ms (picked-each (λ (m : ℕ). m < 2 ^ n) (masksOf c) is (each-of _ is (λ i m. masks-small n (gateAt c) (length (c .gates)) i))) in
+      let b = both (ltb 0 t) row in
+      let t-some = ne-eqb t 0 (λ e. omega (arith, ltb-true 0 t (b .0))) in
+      let t-low = lt-leb (2 ^ n) t (ltb-true t (2 ^ n) (b .1)) in
+      let flat = any-none 16 ds (picked-each (λ (d : ℕ). d < 16) (depthsOf c) is (each-of _ is (λ i m. omega (arith, shallow-in (depthsOf c) i m .1)))) in
+      λ i. refuse (n-low i || n-high i) Inputs (refuse (even i || some i || few i) Lists (refuse (small i || t-some i || t-low i) Mask (refuse (flat i || ltb 15 D) Depth Asked)))
+
+  pub deep-refused : 15 < D → hintFor c t D .answer ≡ Refused TooDeep
+  unfolding hintFor answerOf
+  deep-refused h =
+      ap (λ (l : Looked). hintAnswer (whereSound l (answered (distance (c .inputs) (baseOf ms ds) t D))))
+      (look-is ∙ ap (λ (x : Bool). refuse x Depth Asked) (lt-ltb 15 D h))
+
+  pub flat-answered : D ≤ 15 → (why : Refusal) → hintFor c t D .answer ≡ Refused why → ⊥
+  unfolding hintFor answerOf
+  flat-answered h why e =
+      no (distance (c .inputs) (baseOf ms ds) t D)
+      (sym (ap (λ (l : Looked). hintAnswer (whereSound l (answered (distance (c .inputs) (baseOf ms ds) t D)))) (look-is ∙ ap (λ (x : Bool). refuse x Depth Asked) (le-ltb 15 D h))) ∙ e) where
+        no : (x : Gap) → hintAnswer (answered x) ≡ Refused why → ⊥
+        no (gates g) q = let z : _≡_ {A = ℕ} 0 1 = cc in omega arith
+        no never q = let z : _≡_ {A = ℕ} 0 1 = cc in omega arith
+
+-- ---- in a state that keeps every rule
+module _ (s : State) (ok : Sound s) (rows : List ℕ) (is-matrix : s .target ≡ matrix rows) (j D : ℕ) (there : j < length rows) where
+  row-fits : rowFits (s .circuit .inputs) (getD rows j 0) ≡ true
+  unfolding targetFits
+  row-fits =
+      let n = s .circuit .inputs in
+      let m = length (s .circuit .outs) in
+      let e = sym (ap (λ (t : Target). targetFits n m t) is-matrix) ∙ ok .target in
+      all-there (rowFits n) rows j (both (eqb (length rows) m) e .1) there
+
+  pub too-deep : 15 < D → hintFor (s .circuit) (getD rows j 0) D .answer ≡ Refused TooDeep
+  too-deep = deep-refused (isMatrix (s .target)) (s .circuit) (ok .circuit) (getD rows j 0) D row-fits
+
+  pub not-refused : D ≤ 15 → (why : Refusal) → hintFor (s .circuit) (getD rows j 0) D .answer ≡ Refused why → ⊥
+  not-refused = flat-answered (isMatrix (s .target)) (s .circuit) (ok .circuit) (getD rows j 0) D row-fits
