@@ -1,5 +1,5 @@
 /* An open takes a bench whatever it holds: refused, it leaves every field as it was; accepted, it leaves what it leaves on a bench of zeros.
- * A sweep and an append on such a bench end and write nothing beside it; more is not promised of them there. */
+ * A sweep, an append and a hint on such a bench end and write nothing beside it; more is not promised of them there. */
 #include "../bindings/c/allpawasi.h"
 #include <string.h>
 
@@ -49,7 +49,7 @@ static void muddle(size_t n, size_t m, size_t g, int byte, int step) {
     lent.bench.g = g;
 }
 
-/* an append, a sweep and an append, of the largest shapes, the smallest and some that are out of range */
+/* an append, hints, a sweep and an append, of the largest shapes, the smallest and some that are out of range */
 static bool is_bounded(int byte, int step) {
     static const size_t shapes[][3] = {{8, 32, 248}, {8, 32, 247}, {1, 1, 1}, {9, 32, 248}, {8, 33, 248}, {8, 32, 249}, {0, 0, SIZE_MAX}};
     memset(&as_lent, 0xA5, sizeof as_lent);
@@ -57,6 +57,7 @@ static bool is_bounded(int byte, int step) {
     for (size_t i = 0; i < sizeof shapes / sizeof shapes[0]; i++) {
         muddle(shapes[i][0], shapes[i][1], shapes[i][2], byte, step);
         if (allpawasi_append_gate(&lent.bench, 0, 0, 0).count > ALLPAWASI_LINES) return false;
+        if (allpawasi_hint(&lent.bench, 0, 15).count > ALLPAWASI_SET || allpawasi_hint(&lent.bench, 31, 1).count > ALLPAWASI_SET) return false;
         if (allpawasi_sweep(&lent.bench).count > ALLPAWASI_GATES) return false;
         if (allpawasi_append_gate(&lent.bench, 0, 0, 0).count > ALLPAWASI_LINES || !is_alone_written()) return false;
     }

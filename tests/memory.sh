@@ -4,7 +4,7 @@ set -uo pipefail
 watch() { valgrind -q --error-exitcode=9 "$@" >/dev/null; }
 session=$(sed -n '/^```desk$/,/^```$/p' README.md | grep '^> ' | cut -c3-) || exit 1
 {
-    printf '%s\nheld\nappend 0 0 1\nappend 7 0 1\nsweep\nnew\nsweep\nreport\nshow\ngate 1 2\n\n# remark\nopen 5348 table - 0 0 0\n' "$session"
+    printf '%s\nheld\nhint 2 15\nhint 3 15\nhint 0 16\nappend 0 0 1\nappend 7 0 1\nsweep\nnew\nsweep\nreport\nshow\ngate 1 2\n\n# remark\nopen 5348 table - 0 0 0\n' "$session"
     printf 'distance 4 0102040807 0000000002 15 3\nentry 18446744073709551615 0\nentry 18446744073709551616 0\n'
     head -c 70000 /dev/zero | tr '\0' 'x'
     printf '\nreport'

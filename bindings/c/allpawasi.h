@@ -1,4 +1,4 @@
-/* Allpawasi for C: the circuit bench, the builder, the distance query and the reader of equation files, as the proved static library has them.
+/* Allpawasi for C: the circuit bench, the builder, the distance query, hints and the reader of equation files, as the proved static library has them.
  *
  * Link target/staticlib/liblent.a (`rt staticlib lent`). A `const uint8_t *` and the length after it name bytes that may be read; a `uint8_t *` and a length name a room
  * that may be written. Where a length is 0 the pointer is not followed, but it must not be null: pass any valid address.
@@ -18,8 +18,8 @@
 #include <stddef.h>
 #include <stdint.h>
 
-/* How many outputs, gates and lines a circuit may have, and how many input values. */
-enum { ALLPAWASI_OUTPUTS = 32, ALLPAWASI_GATES = 248, ALLPAWASI_LINES = 256, ALLPAWASI_VALUES = 256 };
+/* How many outputs, gates and lines a circuit may have, how many input values, and how many lines a smallest set. */
+enum { ALLPAWASI_OUTPUTS = 32, ALLPAWASI_GATES = 248, ALLPAWASI_LINES = 256, ALLPAWASI_VALUES = 256, ALLPAWASI_SET = 8 };
 
 typedef struct {
     uint64_t w0, w1, w2, w3; /* input value x at bit x % 64 of word x / 64 */
@@ -56,6 +56,14 @@ typedef struct {
     size_t refusal, count, place;
 } allpawasi_reading;
 
+/* A distance: the fewest gates, 99 where no program makes the target, or 100 and the refusal's number; and the lines of the smallest
+ * set that comes first, ascending: `code` + 1 of them where there is a distance, else none. The rest of lines is 0. */
+typedef struct {
+    uint64_t code;
+    size_t count;
+    uint16_t lines[ALLPAWASI_SET];
+} allpawasi_found;
+
 /* 0, or why it was refused. */
 size_t allpawasi_open_matrix(allpawasi_bench *bench, const uint8_t *bytes, size_t length, const uint8_t *rows, size_t row_count,
                              uint8_t max_gates, uint8_t max_depth, uint8_t max_and_depth);
@@ -89,9 +97,13 @@ size_t allpawasi_build(size_t n, const uint8_t *rows, size_t row_count, size_t d
 size_t allpawasi_build_late(size_t n, const uint8_t *arrivals, size_t arrival_count, const uint8_t *rows, size_t row_count,
                             const uint8_t *limits, size_t limit_count, uint8_t *room, size_t room_length);
 
-/* The fewest XOR gates that make a target over a base; 99 where no program does; 100 and the refusal's number. */
-uint64_t allpawasi_distance(size_t n, const uint8_t *masks, size_t mask_count, const uint8_t *depths, size_t depth_count,
-                            size_t target, size_t depth);
+/* The fewest XOR gates that make a target within a depth over a base, and of which lines: line i has masks[i] and depths[i]. */
+allpawasi_found allpawasi_distance(size_t n, const uint8_t *masks, size_t mask_count, const uint8_t *depths, size_t depth_count,
+                                   size_t target, size_t depth);
+
+/* The same for row j of the matrix that is open, over the lines of the circuit that are at most 15 deep, by their numbers in the circuit.
+ * Refused 12: the target is a table, or has no such row. */
+allpawasi_found allpawasi_hint(const allpawasi_bench *bench, size_t j, size_t depth);
 
 /* Reads an equation file, one assignment a line: its stored circuit first in the room. */
 allpawasi_reading allpawasi_equations(const uint8_t *text, size_t length, uint8_t *room, size_t room_length);

@@ -1,6 +1,6 @@
-/* A designer's morning in C: build an XOR program, open it, break a gate, look, mend it, store; build it for an input that comes
- * late; read an equation file with a slip, mend it, open it with its table; append a gate in another's place, point an output at
- * it, sweep the other out. */
+/* A designer's morning in C: build an XOR program, open it, break a gate, look, ask which lines make its row, mend it, store; build it
+ * for an input that comes late; read an equation file with a slip, mend it, open it with its table; append a gate in another's place,
+ * point an output at it, sweep the other out. */
 #include "allpawasi.h"
 #include <stdio.h>
 #include <string.h>
@@ -20,6 +20,18 @@ static void tell_lines(const allpawasi_edit *edit) {
     printf("reworked");
     for (size_t i = 0; i < edit->count; i++) printf(" %d", edit->lines[i]);
     printf("\n");
+}
+
+static void tell_found(allpawasi_found found) {
+    if (found.code > 99) {
+        printf("refused %d\n", (int)found.code - 100);
+    } else if (found.code == 99) {
+        printf("distance none\n");
+    } else {
+        printf("distance %d, lines", (int)found.code);
+        for (size_t i = 0; i < found.count; i++) printf(" %d", found.lines[i]);
+        printf("\n");
+    }
 }
 
 static size_t read_equations(const char *text, uint8_t *room, size_t room_length) {
@@ -46,12 +58,15 @@ int main(void) {
     allpawasi_edit edit = allpawasi_replace_gate(&bench, 0, 0, 0, 2);
     tell_lines(&edit);
     tell(&bench);
+    tell_found(allpawasi_hint(&bench, 0, 2)); /* row 0 is lines 0 and 1 */
+    tell_found(allpawasi_hint(&bench, 0, 0));
+    tell_found(allpawasi_hint(&bench, 3, 2));
 
     printf("refused %zu\n", allpawasi_replace_gate(&bench, 0, 2, 0, 1).refusal);
     allpawasi_replace_gate(&bench, 0, 0, 0, 1);
     tell(&bench);
     printf("stored %zu bytes\n", allpawasi_store(&bench, room, sizeof room));
-    printf("distance %llu\n", (unsigned long long)allpawasi_distance(3, rows, 3, (const uint8_t[]){0, 0, 0}, 3, 5, 4));
+    tell_found(allpawasi_distance(3, rows, 3, (const uint8_t[]){0, 0, 0}, 3, 5, 4));
 
     const uint8_t arrivals[] = {2, 0, 0}; /* the first input goes in last */
     uint8_t limits[] = {3, 3, 1};

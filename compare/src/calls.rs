@@ -17,6 +17,7 @@ pub enum Call {
     Output([usize; 2]),
     Entry([usize; 2]),
     Limits(Limits),
+    Hint([usize; 2]),
     Store(usize),
 }
 
@@ -59,7 +60,7 @@ pub fn call(rng: &mut Rng, present: Option<&Present>) -> Call {
 /// A call that concerns this circuit under a matrix or a table. Now and then it is opened again with the target that it meets,
 /// since edits mostly make it wrong.
 pub fn concerning(rng: &mut Rng, c: &Circuit, matrix: bool) -> Call {
-    match rng.below(23) {
+    match rng.below(25) {
         0 | 1 => right_open(rng, c, matrix),
         2..=8 => Call::Gate(gate_edit(rng, c, matrix)),
         9..=11 => Call::Output(output_edit(rng, c)),
@@ -67,6 +68,7 @@ pub fn concerning(rng: &mut Rng, c: &Circuit, matrix: bool) -> Call {
         15 | 16 => Call::Limits(near_limits(rng, c)),
         17 => Call::Store(near(rng, write(c).len()).min(2000)),
         18..=20 => Call::Append(append_edit(rng, c, matrix)),
+        21 | 22 if matrix || rng.once_in(4) => Call::Hint(hint_query(rng, c)),
         _ => Call::Sweep,
     }
 }
@@ -156,4 +158,16 @@ fn entry_edit(rng: &mut Rng, c: &Circuit, matrix: bool) -> [usize; 2] {
     }
     let i = rng.below(met.len() as u64) as usize;
     [i, met[i].into()]
+}
+
+/// A row's number, mostly one that is there, and a depth: mostly one that binds, or any.
+pub fn hint_query(rng: &mut Rng, c: &Circuit) -> [usize; 2] {
+    let m = c.outs.len();
+    let j = if rng.once_in(5) { near(rng, m) } else { rng.below(m as u64) as usize };
+    let d = match rng.below(8) {
+        0 => near(rng, 16),
+        1..=4 => rng.below(5) as usize,
+        _ => rng.below(16) as usize,
+    };
+    [j, d]
 }

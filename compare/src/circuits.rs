@@ -1,6 +1,7 @@
 //! Random circuits, sound and damaged.
 
 use crate::duplicates::{with_duplicates, without_duplicates};
+use crate::hints::program;
 use reference::circuit::{write, Circuit, Gate};
 use reference::examine::work;
 use reference::rng::Rng;
@@ -47,11 +48,12 @@ pub fn any_circuit(rng: &mut Rng, only: bool) -> Circuit {
 }
 
 /// A circuit to open: mostly an XOR program whose every output sums some input, for a matrix; mostly one of eight outputs at
-/// most, for a table; often one with trial gates or with copies of gates.
+/// most, for a table; often one with trial gates or with copies of gates, and for a matrix one with deep lines before shallow ones.
 pub fn sketch(rng: &mut Rng, matrix: bool) -> Circuit {
     match rng.below(8) {
         0 | 1 => return with_trial_gates(rng, matrix),
         2 => return swept_or_not(rng, matrix),
+        3 if matrix => return program(rng, 30),
         _ => {}
     }
     if matrix {

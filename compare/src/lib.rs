@@ -7,6 +7,8 @@ pub mod depths;
 pub mod duplicates;
 pub mod edges;
 pub mod files;
+pub mod found;
+pub mod hints;
 pub mod late;
 pub mod long_files;
 pub mod met;

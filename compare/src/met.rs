@@ -5,6 +5,7 @@ use std::collections::BTreeMap;
 use std::fmt;
 
 use crate::calls::Present;
+use crate::found::Found;
 use crate::swept::{self, OF_A_GATE, OF_A_SWEEP};
 use allpawasi::Verdict;
 use reference::circuit::{check_gate, MAX_GATES};
@@ -53,9 +54,13 @@ pub const LEFT_OUT: [&str; 5] =
 pub const APPENDED: [&str; 6] =
     ["full, else done", "full, else refused 4", "full, else refused 5", "full, else refused 7", "in room of a sweep", "the last"];
 
+/// Why there is no row for a hint, and where the number of a line is not its place in the base: lines that are deeper than 15 stand
+/// before others, or before one that is answered.
+pub const HINTED: [&str; 4] = ["no rows, a table", "no such row", "past lines too deep", "past lines too deep, and answered"];
+
 /// A distance that was found, or that there is none.
-pub fn gates(distance: &Option<u64>) -> Kind {
-    Kind::Says(distance.map_or("none".to_string(), |gates| gates.to_string()))
+pub fn gates(found: &Option<Found>) -> Kind {
+    Kind::Says(found.as_ref().map_or("none".to_string(), |found| found.0.to_string()))
 }
 
 /// How often each call gave each kind of answer, and the room that a sweep of a full list made and no append took since.
@@ -74,7 +79,7 @@ impl Met {
         *self.times.entry(call).or_default().entry(kind).or_default() += times;
     }
 
-    fn say(&mut self, call: &'static str, words: &str, times: usize) {
+    pub fn say(&mut self, call: &'static str, words: &str, times: usize) {
         if times > 0 {
             self.add(call, Kind::Says(words.to_string()), times);
         }
@@ -134,6 +139,18 @@ impl Met {
             self.say("an append", APPENDED[5], (g + 1 == most) as usize);
             self.room = self.room.saturating_sub(1);
         }
+    }
+
+    /// Counts a hint on this: how far the row is, or that there is none, and what is so of the lines' numbers.
+    pub fn hinted(&mut self, (c, target, _): &Present, answer: &Result<Option<Found>, usize>) {
+        self.say("a hint", HINTED[target.xor_only() as usize], (*answer == Err(12)) as usize);
+        let Ok(found) = answer else { return };
+        self.count("a hint", gates(found));
+        let depths = work(c).depths;
+        let Some(deep) = depths.iter().position(|&depth| depth > 15) else { return };
+        self.say("a hint", HINTED[2], depths[deep..].iter().any(|&depth| depth <= 15) as usize);
+        let answered = |found: &Found| found.1.iter().any(|&line| line as usize > deep);
+        self.say("a hint", HINTED[3], found.as_ref().is_some_and(answered) as usize);
     }
 
     /// Another circuit is open: the room that a sweep made was not in this one.
@@ -210,6 +227,14 @@ impl Met {
         self.said_at_least("over-gates, and swept", &VERDICTS[2..], least);
     }
 
+    /// Hints found each number of gates below this, found none, and met the rest, so often at least.
+    pub fn hints(&self, gates: usize, least: usize) {
+        let found: Vec<String> = (0..gates).map(|gates| gates.to_string()).collect();
+        let found: Vec<&str> = found.iter().map(String::as_str).chain(["none"]).collect();
+        self.said_at_least("a hint", &found, least);
+        self.said_at_least("a hint", &HINTED, least);
+    }
+
     /// Each call on a bench was refused with each of its numbers, and each verdict was given often.
     pub fn whole_bench(&self) {
         self.done_and_refused("open", &[1, 2, 3, 4, 5, 6, 7, 8]);
@@ -219,6 +244,7 @@ impl Met {
         self.done_and_refused("output", &[6, 12, 13]);
         self.done_and_refused("entry", &[8, 12, 13]);
         self.done_and_refused("limits", &[13]);
+        self.done_and_refused("hint", &[9, 12, 13]);
         self.done_and_refused("store", &[11, 13]);
         self.done_and_refused("report", &[13]);
         self.verdicts();

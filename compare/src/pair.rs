@@ -1,6 +1,7 @@
 //! Both benches side by side: each call is made on both, and answers, rooms, reports and what is held must be the same.
 
 use crate::calls::Call;
+use crate::found::{self, Found};
 use crate::met::{self, Kind, Met};
 use allpawasi::{Bench, Limits, Report, Verdict, Words};
 use reference::bench::Bench as Reference;
@@ -94,6 +95,7 @@ impl Pair {
             Call::Output([j, line]) => drop(self.point_output(*j, *line)),
             Call::Entry([i, value]) => self.change_entry(*i, *value),
             Call::Limits(limits) => self.set_limits(*limits),
+            Call::Hint(numbers) => drop(self.hint(*numbers)),
             Call::Store(length) => self.store(*length),
         }
     }
@@ -176,6 +178,18 @@ impl Pair {
     pub fn set_limits(&mut self, limits: Limits) {
         let theirs = |bench: &mut Reference| lines(bench.set_limits(their_limits(limits)));
         self.both("limits", limits, |bench| bench.set_limits(limits), theirs).ok();
+    }
+
+    /// How far a row is and from which lines, or the refusal. Whatever it is, every number on our bench stays as it was.
+    pub fn hint(&mut self, [j, d]: [usize; 2]) -> Result<Option<Found>, usize> {
+        let before = self.ours.clone();
+        let theirs = |bench: &mut Reference| found::theirs(bench.hint(j as u64, d as u64));
+        let answer = self.both("hint", [j, d], |bench| found::ours(bench.hint(j, d)), theirs);
+        assert!(self.ours == before, "a hint for row {j} within {d} changes the bench");
+        if let Some(present) = &self.theirs.present {
+            self.met.hinted(present, &answer);
+        }
+        answer
     }
 
     pub fn store(&mut self, length: usize) {

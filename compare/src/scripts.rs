@@ -2,6 +2,7 @@
 
 use crate::calls::{self, Call, Present};
 use crate::files::{damaged, file};
+use crate::found::{theirs, Found};
 use crate::late;
 use crate::met::{Kind, Met};
 use allpawasi::Limits;
@@ -58,6 +59,7 @@ fn on_bench(rng: &mut Rng, call: &Call) -> (&'static str, String) {
         Call::Sweep => ("sweep", "sweep".to_string()),
         Call::Output(numbers) => ("output", format!("output {}", typed(rng, numbers))),
         Call::Entry(numbers) => ("entry", format!("entry {}", typed(rng, numbers))),
+        Call::Hint(numbers) => ("hint", format!("hint {}", typed(rng, numbers))),
         Call::Limits(three) => ("limits", format!("limits {}", limits(rng, three))),
         Call::Store(length) => ("store", format!("store {}", typed(rng, &[*length]))),
     }
@@ -138,28 +140,34 @@ fn spoiled(rng: &mut Rng, line: String) -> Vec<u8> {
     bytes
 }
 
-/// The kind of an answer that is text: a refusal, a verdict, a word by itself, or that the call was done.
+/// The kind of an answer that is text: a refusal, a verdict, how many gates, a word by itself, or that the call was done.
 pub fn kind(answer: &str) -> Kind {
     let words: Vec<&str> = answer.split_whitespace().collect();
     match words[..] {
         ["refused", number, ..] => Kind::Refused(number.parse().expect("a number")),
         ["report", .., "wrong", _, _] => Kind::Says("wrong".to_string()),
-        ["report", .., verdict] | ["distance", verdict @ "none"] => Kind::Says(verdict.to_string()),
+        ["report", .., word] | ["distance", word, ..] => Kind::Says(word.to_string()),
         [] => Kind::Says("nothing".to_string()),
         ["unreadable"] => Kind::Says("unreadable".to_string()),
         _ => Kind::Done,
     }
 }
 
-/// The three numbers of an append that is typed.
-fn appended(line: &[u8]) -> [usize; 3] {
+/// The numbers of a call that is typed.
+fn numbers<const COUNT: usize>(line: &[u8]) -> [usize; COUNT] {
     let words = String::from_utf8_lossy(line);
     let numbers: Vec<usize> = words.split_whitespace().filter_map(|word| word.parse().ok()).collect();
-    numbers.try_into().expect("an append has three numbers")
+    numbers.try_into().expect("it has so many numbers")
 }
 
-/// What a line should be answered, counted by the call's name; of a report or a listing also what it leaves out, of a sweep and an
-/// append what they meet.
+/// What a hint that is typed should find.
+fn hinted(bench: &Bench, line: &[u8]) -> Result<Option<Found>, usize> {
+    let [j, d] = numbers(line).map(|number: usize| number as u64);
+    theirs(bench.hint(j, d))
+}
+
+/// What a line should be answered, counted by the call's name; of a report or a listing also what it leaves out, of a sweep, an
+/// append and a hint what they meet.
 fn count(met: &mut Met, bench: &mut Bench, name: &'static str, line: &[u8]) {
     let before = bench.present.clone();
     let kind = kind(&desk::answer(bench, line));
@@ -167,7 +175,8 @@ fn count(met: &mut Met, bench: &mut Bench, name: &'static str, line: &[u8]) {
         ("report", _, Some(present)) => met.left_out("left out of a report", present),
         ("show", _, Some(present)) => met.left_out("left out of a show", present),
         ("sweep", Some(before), Some(after)) => met.swept(before, after),
-        ("append", Some(before), _) => met.appended(before, appended(line)),
+        ("append", Some(before), _) => met.appended(before, numbers(line)),
+        ("hint", _, Some(present)) => met.hinted(present, &hinted(bench, line)),
         ("open" | "new", _, _) if kind == Kind::Done => met.opened(),
         _ => {}
     }

@@ -19,7 +19,8 @@ pub fn target_met(c: &Circuit, matrix: bool) -> Target {
     }
 }
 
-/// The target that a circuit meets, most of the time; or that with one bit or byte another, or with a byte more or less.
+/// The target that a circuit meets, most of the time; or that with one bit or byte another, or with a byte more or less; or other
+/// rows altogether.
 pub fn near_target(rng: &mut Rng, c: &Circuit, matrix: bool) -> Target {
     let mut target = target_met(c, matrix);
     let (Target::Matrix(bytes) | Target::Table(bytes)) = &mut target;
@@ -30,6 +31,7 @@ pub fn near_target(rng: &mut Rng, c: &Circuit, matrix: bool) -> Target {
             bytes.pop();
         }
         2 => bytes[at] = rng.below(256) as u8,
+        3 | 4 if matrix && rng.once_in(2) => *bytes = rng.rows(c.n.into(), c.outs.len() as u64),
         3 | 4 => bytes[at] ^= 1 << rng.below(if matrix { c.n.into() } else { c.outs.len().min(8) as u64 }),
         _ => {}
     }

@@ -1,10 +1,12 @@
 //! The bench after random sequences of calls: every answer, every report, and what is held for every line.
 
-use allpawasi::{Limits, Report, Verdict};
+use allpawasi::{distance, Limits, Report, Verdict};
 use compare::calls::{call, Call};
 use compare::circuits::with_trial_gates;
 use compare::depths::{play, pointings};
-use compare::met::{APPENDED, LEFT_OUT};
+use compare::found::OF_A_SET;
+use compare::hints::{as_query, hints};
+use compare::met::{APPENDED, HINTED, LEFT_OUT};
 use compare::pair::{Pair, SHAPELESS};
 use compare::sweeps::morning;
 use compare::targets::{near_limits, target_met};
@@ -30,6 +32,7 @@ fn random_sequences() {
     pair.met.said_at_least("left out of a report", &LEFT_OUT, 1_000);
     pair.met.sweeps(50);
     pair.met.said_at_least("an append", &APPENDED[..5], 50);
+    pair.met.hints(4, 40);
 }
 
 fn limits(gates: u8, depth: u8, and_depth: u8) -> Limits {
@@ -222,6 +225,97 @@ fn appends_are_refused_in_order() {
     assert_eq!((report(&mut pair).gates, report(&mut pair).verdict), (1, Verdict::OverGates));
     assert_eq!(pair.append_gate([XOR.into(), 8, 8]), Ok(vec![9]));
     assert_eq!(report(&mut pair).gates, 2);
+}
+
+/// Programs with lines too deep for a base before shallow ones. Each hint is the query on what our bench holds, and finds the same
+/// set, by the numbers of its lines in the circuit.
+#[test]
+fn hints_past_deep_lines() {
+    let (mut rng, mut pair) = (Rng::new(9), Pair::default());
+    for _ in 0..1_500 {
+        for call in hints(&mut rng, 30) {
+            match call {
+                Call::Hint(numbers) => hint(&mut pair, numbers),
+                _ => pair.make(&call),
+            }
+        }
+        pair.look();
+    }
+    pair.met.show("hints past deep lines");
+    pair.met.said_at_least("a hint", &HINTED[1..], 300);
+    pair.met.said_at_least("a hint", &["none", "0", "1", "2", "3", "4", "5"], 100);
+    pair.met.said_at_least("a set", &OF_A_SET, 80);
+    pair.met.refused("hint", &[9, 12]);
+}
+
+/// A hint, and the query that it is; what is remarkable about the set that both find is counted.
+fn hint(pair: &mut Pair, [j, d]: [usize; 2]) {
+    let Ok(found) = pair.hint([j, d]) else { return };
+    let (query, base) = as_query(pair, j, d);
+    let by_query = query.ours().expect("a hint is not refused where it is the query");
+    if let Some(found) = &by_query {
+        query.remark(&mut pair.met, found);
+    }
+    let numbered = by_query.map(|(gates, places)| (gates, places.iter().map(|&place| base[place as usize]).collect()));
+    assert_eq!(found, numbered, "{query:?} with the lines {base:?}");
+    if base.len() == pair.ours.held().0.len() {
+        let same = distance(query.n, &query.masks, &query.depths, query.target, d);
+        assert_eq!(pair.ours.hint(j, d), same, "the numbers past the lines");
+    }
+}
+
+/// A chain that adds the first input to the last one, and at its end the second: no line but that end has its mask. It is found
+/// within its own depth and deeper, up to 15; otherwise the row is two lines near the chain's beginning.
+#[test]
+fn hints_around_the_deepest_line() {
+    let mut pair = Pair::default();
+    for depth in 1..=20 {
+        let gates: Vec<[u8; 3]> = (1..=depth).map(|link| [XOR, 6 + link, (link == depth).into()]).collect();
+        let odd = depth % 2 == 1;
+        pair.open(&write(&listed(8, &gates, &[])), &Target::Matrix(vec![if odd { 130 } else { 131 }]), limits(0, 0, 0));
+        for d in 0..=15 {
+            let expected = match d {
+                _ if depth <= d => Some((0, vec![u16::from(7 + depth)])),
+                1.. if odd => Some((1, vec![1, 7])),
+                2.. => Some((1, vec![1, 8])),
+                _ => None,
+            };
+            assert_eq!(pair.hint([0, d.into()]), Ok(expected), "depth {depth} within {d}");
+        }
+    }
+}
+
+/// The longest chain but for one gate, the only one that sums the first two inputs: at each line it is found by its own number,
+/// however many lines before it are too deep.
+#[test]
+fn a_hint_at_each_line() {
+    let mut pair = Pair::default();
+    for at in 8..=255u8 {
+        let before = |line: u8| if line - 1 == at { line - 2 } else { line - 1 };
+        let gates: Vec<[u8; 3]> = (8..=255).map(|line| if line == at { [XOR, 0, 1] } else { [XOR, before(line), 7] }).collect();
+        pair.open(&write(&listed(8, &gates, &[0])), &Target::Matrix(vec![3, 7]), limits(248, 255, 0));
+        let (alone, with_input) = (Ok(Some((0, vec![at.into()]))), Ok(Some((1, vec![2, at.into()]))));
+        assert_eq!([0, 1, 15].map(|d| pair.hint([0, d])), [Ok(None), alone.clone(), alone], "line {at}");
+        assert_eq!([1, 2, 15].map(|d| pair.hint([1, d])), [Ok(None), with_input.clone(), with_input], "line {at}");
+    }
+    pair.met.show("a hint at each line of a chain");
+}
+
+/// What is there to refuse is refused in this order: 13, 12, 9; whatever the numbers are, on a bench of zeros too.
+#[test]
+fn hints_are_refused_in_order() {
+    let mut pair = Pair::default();
+    let wide = [0, 1, 2, 15, 16, 255, 256, 1 << 32, usize::MAX];
+    let all = |pair: &mut Pair, expected: &dyn Fn(usize, usize) -> Option<usize>| {
+        for (j, d) in wide.iter().flat_map(|&j| wide.iter().map(move |&d| (j, d))) {
+            assert_eq!(pair.hint([j, d]).err(), expected(j, d), "row {j} within {d}");
+        }
+    };
+    all(&mut pair, &|_, _| Some(13));
+    pair.open(&write(&listed(2, &[[AND, 0, 1]], &[])), &Target::Table(vec![0, 0, 0, 1]), limits(9, 9, 9));
+    all(&mut pair, &|_, _| Some(12));
+    pair.open(&write(&listed(2, &[[XOR, 0, 1]], &[0])), &Target::Matrix(vec![3, 1]), limits(9, 9, 9));
+    all(&mut pair, &|j, d| if j > 1 { Some(12) } else { (d > 15).then_some(9) });
 }
 
 /// A chain of 248 gates, each of which reads the line before it: the depth of gate k is k + 1.

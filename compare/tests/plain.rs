@@ -1,18 +1,21 @@
-//! The library beside the plain ways of the independent program, which keep no table and hold no words: both builds and the
-//! distance by every set of lines, the distance by every program, circuits worked input value by input value, sweeps by classes
-//! of lines, and equation files by splitting their text.
+//! The library beside the plain ways of the independent program, which keep no table and hold no words: both builds, distances and
+//! hints by every set of lines, the distance by every program, circuits worked input value by input value, sweeps by classes of
+//! lines, and equation files by splitting their text.
 
-use allpawasi::{distance, Limits};
+use allpawasi::Limits;
 use compare::calls::{concerning, Call};
 use compare::circuits::{circuit, point_at_sums};
 use compare::depths::{play, pointings, trials, LOOSE};
 use compare::files::{damaged, file};
+use compare::found::{of_set, Query, OF_A_SET};
+use compare::hints::hints;
 use compare::late::{remark, sound, OF_A_PROGRAM};
-use compare::met::{gates, Kind, Met, LEFT_OUT};
+use compare::met::{gates, Kind, Met, HINTED, LEFT_OUT};
 use compare::pair::{our_report, value, Pair};
 use compare::sweeps::morning;
 use compare::targets::{near_limits, near_target, target_met};
 use reference::circuit::{write, Circuit};
+use reference::examine::Target;
 use reference::plain::{bench, builder, equations};
 use reference::rng::Rng;
 
@@ -55,26 +58,30 @@ fn late_signals() {
     met.said_at_least("a program", &OF_A_PROGRAM, 15);
 }
 
-/// Bases of up to so many lines, with a target and a depth.
-fn query(rng: &mut Rng, lines: u64) -> (usize, Vec<u8>, Vec<u8>, u8, u8) {
+/// A query on a base of up to so many lines.
+fn query(rng: &mut Rng, lines: u64) -> Query {
     let (n, lines) = (rng.between(1, 8), rng.between(1, lines));
     let masks = (0..lines).map(|_| rng.below(1 << n) as u8).collect();
     let depths = (0..lines).map(|_| rng.below(4) as u8).collect();
-    (n as usize, masks, depths, rng.between(1, (1 << n) - 1) as u8, rng.below(7) as u8)
+    Query { n: n as usize, masks, depths, target: rng.between(1, (1 << n) - 1) as usize, d: rng.below(7) as usize }
 }
 
 #[test]
 fn distances_by_every_set() {
     let (mut rng, mut met) = (Rng::new(22), Met::default());
     for _ in 0..4_000 {
-        let (n, masks, depths, target, d) = query(&mut rng, 14);
-        let ours = distance(n, &masks, &depths, target.into(), d.into());
-        let plain = builder::distance(&builder::lines_of(&masks, &depths), target, d);
-        assert_eq!(ours, Ok(plain), "masks {masks:?} depths {depths:?} target {target} D {d}");
+        let query = query(&mut rng, 14);
+        let ours = query.ours();
+        let plain = builder::smallest_set(&builder::lines_of(&query.masks, &query.depths), query.target as u8, query.d as u8);
+        assert_eq!(ours, Ok(plain.map(of_set)), "{query:?}");
         met.answer("distance", &ours, gates);
+        if let Ok(Some(found)) = &ours {
+            query.remark(&mut met, found);
+        }
     }
     met.ends("distances by every set", "distance", &[]);
     met.said("distance", &["none", "0", "1", "2", "3", "4", "5"]);
+    met.said_at_least("a set", &OF_A_SET, 30);
 }
 
 /// The definition itself, as far as three gates.
@@ -82,14 +89,38 @@ fn distances_by_every_set() {
 fn distances_by_every_program() {
     let (mut rng, mut met) = (Rng::new(23), Met::default());
     for _ in 0..2_000 {
-        let (n, masks, depths, target, d) = query(&mut rng, 5);
-        let ours = distance(n, &masks, &depths, target.into(), d.into()).map(|gates| gates.filter(|&gates| gates <= 3));
-        let plain = builder::distance_by_programs(&builder::lines_of(&masks, &depths), target, d, 3);
-        assert_eq!(ours, Ok(plain), "masks {masks:?} depths {depths:?} target {target} D {d}");
+        let query = query(&mut rng, 5);
+        let ours = query.ours().map(|found| found.filter(|found| found.0 <= 3));
+        let base = builder::lines_of(&query.masks, &query.depths);
+        let plain = builder::distance_by_programs(&base, query.target as u8, query.d as u8, 3);
+        assert_eq!(ours.as_ref().map(|found| found.as_ref().map(|found| found.0 as u64)), Ok(plain), "{query:?}");
         met.answer("distance", &ours, gates);
     }
     met.ends("distances by every program", "distance", &[]);
     met.said("distance", &["none", "0", "1", "2", "3"]);
+}
+
+/// Hints on programs with lines too deep for a base, which here stand in it, too deep for any set: no line is numbered anew.
+#[test]
+fn hints_by_every_set() {
+    let (mut rng, mut pair) = (Rng::new(29), Pair::default());
+    for _ in 0..400 {
+        for call in hints(&mut rng, 18) {
+            match call {
+                Call::Hint(numbers) => hint(&mut pair, numbers),
+                _ => pair.make(&call),
+            }
+        }
+    }
+    pair.met.show("hints by every set");
+    pair.met.said_at_least("a hint", &HINTED[1..], 100);
+    pair.met.said_at_least("a hint", &["none", "0", "1", "2", "3", "4"], 50);
+}
+
+fn hint(pair: &mut Pair, [j, d]: [usize; 2]) {
+    let Ok(found) = pair.hint([j, d]) else { return };
+    let Some((c, Target::Matrix(rows), _)) = &pair.theirs.present else { panic!("a hint was given, and there are no rows") };
+    assert_eq!(found, bench::hint(c, rows[j], d as u8).map(of_set), "{c:?} row {} D {d}", rows[j]);
 }
 
 /// What is held and reported of what is present, worked input value by input value.

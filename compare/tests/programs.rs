@@ -3,8 +3,9 @@
 
 use compare::depths::{pointings, trials};
 use compare::files::{damaged, file};
+use compare::hints::hints;
 use compare::long_files::{designers, worst};
-use compare::met::{Met, APPENDED, LEFT_OUT};
+use compare::met::{Met, APPENDED, HINTED, LEFT_OUT};
 use compare::programs::{run, start};
 use compare::scripts::{kind, script, session};
 use compare::sweeps::morning;
@@ -34,7 +35,8 @@ fn whole_language(met: &Met) {
     met.done_and_refused("late", &[1, 2, 8, 9, 10, 11]);
     met.done_and_refused("distance", &[1, 2, 8, 9]);
     met.done_and_refused("equations", &[1, 11, 15, 16, 17]);
-    met.said("distance", &["none"]);
+    met.said_at_least("distance", &["none", "0", "1", "2", "3"], 5);
+    met.hints(3, 10);
     met.said("spoiled", &["unreadable", "nothing"]);
     met.said_at_least("left out of a report", &LEFT_OUT, 100);
     met.said_at_least("left out of a show", &LEFT_OUT, 10);
@@ -90,6 +92,21 @@ fn sweeps_and_appends() {
     }
     met.show("sweeps and appends");
     met.sweeps(10);
+}
+
+/// Hints typed on programs with lines too deep for a base. The report and the listing after each show that it changed nothing.
+#[test]
+fn hints_past_deep_lines() {
+    let (mut rng, mut met) = (Rng::new(19), Met::default());
+    for _ in 0..100 {
+        let calls = hints(&mut rng, 30);
+        let text = session(&mut rng, &calls, &mut met);
+        same("desk", &text, &desk::run(&text));
+    }
+    met.show("hints past deep lines");
+    met.done_and_refused("hint", &[9, 12, 13]);
+    met.said_at_least("a hint", &HINTED[1..], 20);
+    met.said_at_least("a hint", &["none", "0", "1", "2", "3", "4"], 10);
 }
 
 #[test]

@@ -16,8 +16,8 @@ use std::hint::black_box;
 
 const CALLS: usize = 2_000;
 
-const LOOSE: Limits = Limits { gates: 255, depth: 255, and_depth: 255 };
-const NATIVE_LOOSE: NativeLimits = NativeLimits { gates: 255, depth: 255, and_depth: 255 };
+pub const LOOSE: Limits = Limits { gates: 255, depth: 255, and_depth: 255 };
+pub const NATIVE_LOOSE: NativeLimits = NativeLimits { gates: 255, depth: 255, and_depth: 255 };
 
 /// The published AES S-box of 113 gates, with its table.
 fn aes() -> (Circuit, Vec<u8>) {

@@ -1,6 +1,14 @@
-//! The distance query on bases that would make a plain search exponential.
+//! The distance query on bases that would make a plain search exponential, and a hint on a full list, each with the lines of its set.
 
+use crate::bench::{LOOSE, NATIVE_LOOSE};
 use crate::{keep, row};
+use allpawasi::Bench;
+use compare::circuits::circuit;
+use reference::bench::Bench as Native;
+use reference::circuit::{write, Circuit};
+use reference::examine::Target;
+use reference::hint::hint;
+use reference::rng::Rng;
 use std::hint::black_box;
 
 const CALLS: usize = 20;
@@ -21,4 +29,25 @@ pub fn measure() {
             || (0..CALLS).for_each(|_| keep(reference::distance::distance(8, black_box(&masks), &depths, target as u64, 4))),
         );
     }
+}
+
+/// A row that is one gate away from the lines of a program.
+fn one_gate_away(c: &Circuit) -> u8 {
+    let gates = |row: u8| hint(c, row, 15).expect("a sound row and depth").map(|found| found.gates);
+    (1..=255).find(|&row| gates(row) == Some(1)).expect("there is one")
+}
+
+/// A hint on 248 XOR gates. The native bench works out every line's values first, which this one holds.
+pub fn measure_hint() {
+    let c = circuit(&mut Rng::new(12), 8, 248, 1, true);
+    let (bytes, rows) = (write(&c), vec![one_gate_away(&c)]);
+    let (mut ours, mut theirs) = (Bench::new(), Native::new());
+    ours.open_matrix(&bytes, &rows, LOOSE).expect("sound");
+    theirs.open(&bytes, Target::Matrix(rows), NATIVE_LOOSE).expect("sound");
+    row(
+        "hint, 248 XOR gates, a row one gate away",
+        CALLS,
+        || (0..CALLS).for_each(|_| keep(black_box(&ours).hint(0, 15))),
+        || (0..CALLS).for_each(|_| keep(black_box(&theirs).hint(0, 15))),
+    );
 }

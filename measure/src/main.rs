@@ -54,6 +54,7 @@ fn main() {
     bench::measure_sweeps();
     bench::measure_appends();
     distance::measure();
+    distance::measure_hint();
     builder::measure();
     println!();
     head("ms");

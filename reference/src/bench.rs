@@ -1,9 +1,10 @@
-//! The bench: one circuit, one target and three limits, with the calls that open, examine, edit
-//! and store. Every report is examined afresh; a refused call changes nothing.
+//! The bench: one circuit, one target and three limits, with the calls that open, examine, edit,
+//! hint and store. Every report is examined afresh; a refused call changes nothing.
 
 use crate::circuit::{self, Circuit, Gate, MAX_GATES};
+use crate::distance::Distance;
 use crate::examine::{self, Limits, Lines, Report, Target};
-use crate::sweep;
+use crate::{hint, sweep};
 
 type Open = (Circuit, Target, Limits);
 
@@ -105,6 +106,15 @@ impl Bench {
     pub fn set_limits(&mut self, limits: Limits) -> Result<Vec<usize>, u8> {
         self.opened_mut()?.2 = limits;
         Ok(Vec::new())
+    }
+
+    /// How far row j of a matrix is from the circuit's lines within depth D, and from which; or none.
+    pub fn hint(&self, j: u64, d: u64) -> Result<Option<Distance>, u8> {
+        let (circuit, target, _) = self.opened()?;
+        match target {
+            Target::Matrix(rows) if j < rows.len() as u64 => hint::hint(circuit, rows[j as usize], d),
+            _ => Err(12),
+        }
     }
 
     /// Writes the stored circuit first in the lent room and answers its length.

@@ -5,6 +5,7 @@ use std::io::{self, BufRead, BufReader, BufWriter, Read, Write};
 
 use crate::bench::Bench;
 use crate::circuit::MAX_STORED;
+use crate::distance::Distance;
 use crate::examine::{Limits, Lines, Report, Target, Words};
 use crate::{builder, distance, equations, listing};
 
@@ -125,6 +126,10 @@ fn call(bench: &mut Bench, word: &[u8], rest: &[&[u8]]) -> Result<String, Fault>
             let limits = limits(rest)?;
             Ok(reworked(&bench.set_limits(limits)?))
         }
+        (b"hint", _) => {
+            let [j, d] = numbers(rest)?;
+            Ok(found(&bench.hint(j, d)?))
+        }
         (b"store", _) => store(bench, rest),
         (b"held", []) => held(bench),
         (b"show", []) => show(bench),
@@ -213,9 +218,20 @@ fn report(report: &Report) -> String {
     )
 }
 
+/// Lines by their numbers, a space before each.
+fn list(lines: &[usize]) -> String {
+    lines.iter().map(|line| format!(" {line}")).collect()
+}
+
 fn reworked(lines: &[usize]) -> String {
-    let list: String = lines.iter().map(|line| format!(" {line}")).collect();
-    format!("reworked {}{list}", lines.len())
+    format!("reworked {}{}", lines.len(), list(lines))
+}
+
+fn found(distance: &Option<Distance>) -> String {
+    match distance {
+        Some(Distance { gates, lines }) => format!("distance {gates}{}", list(lines)),
+        None => "distance none".to_string(),
+    }
 }
 
 fn store(bench: &Bench, rest: &[&[u8]]) -> Result<String, Fault> {
@@ -270,10 +286,7 @@ fn late(n: &[u8], lists: [&[u8]; 3], room: &[u8]) -> Result<String, Fault> {
 fn query(n: &[u8], masks: &[u8], depths: &[u8], t: &[u8], d: &[u8]) -> Result<String, Fault> {
     let (n, masks, depths) = (number(n)?, bytes(masks)?, bytes(depths)?);
     let (t, d) = (number(t)?, number(d)?);
-    Ok(match distance::distance(n, &masks, &depths, t, d)? {
-        Some(gates) => format!("distance {gates}"),
-        None => "distance none".to_string(),
-    })
+    Ok(found(&distance::distance(n, &masks, &depths, t, d)?))
 }
 
 fn read_equations(text: &[u8], room: &[u8]) -> Result<String, Fault> {

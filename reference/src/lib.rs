@@ -8,6 +8,7 @@ pub mod desk;
 pub mod distance;
 pub mod equations;
 pub mod examine;
+pub mod hint;
 pub mod listing;
 pub mod plain;
 pub mod program;

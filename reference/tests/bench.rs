@@ -172,6 +172,7 @@ fn nothing_open_is_refused_13() {
     assert_eq!(empty.point_output(big, big), Err(13));
     assert_eq!(empty.change_entry(big, big), Err(13));
     assert_eq!(empty.set_limits(limits(0, 0, 0)), Err(13));
+    assert_eq!(empty.hint(big, big), Err(13));
     assert_eq!(empty.store(&mut []), Err(13));
     assert_eq!(empty, Bench::new());
 }

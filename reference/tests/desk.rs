@@ -75,10 +75,52 @@ fn stores_builds_and_measures() {
     assert_eq!(answers("build 300 030706 2 0\nbuild 3 - 2 0\n"), "refused 1\nrefused 1\n");
     assert_eq!(answers("build 3 030800 300 0\nbuild 3 03 300 0\n"), "refused 8\nrefused 9\n");
     let k6 = "distance 4 0102040807 0000000002 15";
-    assert_eq!(answers(&format!("{k6} 3\n{k6} 2\n{k6} 1\n")), "distance 1\ndistance 3\ndistance none\n");
+    assert_eq!(
+        answers(&format!("{k6} 3\n{k6} 2\n{k6} 1\n")),
+        "distance 1 3 4\ndistance 3 0 1 2 3\ndistance none\n"
+    );
+    assert_eq!(answers("distance 2 030003 020001 3 1\n"), "distance 0 2\n");
+    let last = format!("distance 1 {}01 {} 1 0\n", "00".repeat(255), "00".repeat(256));
+    assert_eq!(answers(&last), "distance 0 255\n");
     let refusals =
         "distance 300 - - 0 300\ndistance 4 - - 0 300\ndistance 4 01 00 300 300\ndistance 4 01 00 1 300\n";
     assert_eq!(answers(refusals), "refused 1\nrefused 2\nrefused 8\nrefused 9\n");
+}
+
+/// The program of K1: lines 3, 4 and 5 have masks 3, 7 and 6 and depths 1, 2 and 1.
+const K1: &str = "open 53480303034754000001475400020347540001024f50034f50044f5005 matrix 030706 3 2 0\n";
+
+/// The answer to some lines on a bench with the program of K1 open.
+fn on_k1(lines: &str) -> String {
+    answers(&format!("{K1}{lines}\n")).strip_prefix("opened\n").unwrap().to_string()
+}
+
+#[test]
+fn hints() {
+    assert_eq!(on_k1("hint 0 15\nhint 1 2\nhint 2 1"), "distance 0 3\ndistance 0 4\ndistance 0 5\n");
+    assert_eq!(on_k1("hint 0 0\nhint 1 1\nhint  001 2 "), "distance none\ndistance none\ndistance 0 4\n");
+    // With gate 1 another, row 7 is line 0 with 5 or line 2 with 3.
+    assert_eq!(on_k1("gate 1 0 0 0\nhint 1 2\nhint 1 1"), "reworked 1 4\ndistance 1 0 5\ndistance none\n");
+    assert_eq!(on_k1("entry 1 5\nhint 1 1\nhint 1 0"), "reworked 0\ndistance 1 0 2\ndistance none\n");
+    let new = "open 53480401004f5000 matrix 0f 0 0 0\n";
+    assert_eq!(answers(&format!("{new}hint 0 2\nhint 0 1\n")), "opened\ndistance 3 0 1 2 3\ndistance none\n");
+    let big = u64::MAX;
+    for (line, number) in [
+        ("hint 3 300".to_string(), 12),
+        (format!("hint 300 {big}"), 12),
+        (format!("hint {big} 16"), 12),
+        ("hint 0 16".to_string(), 9),
+        ("hint 2 300".to_string(), 9),
+        (format!("hint 1 {big}"), 9),
+    ] {
+        assert_eq!(on_k1(&line), format!("refused {number}\n"), "{line}");
+        assert_eq!(
+            on_k1(&format!("{line}\nshow\nheld")),
+            format!("refused {number}\n{}", on_k1("show\nheld"))
+        );
+    }
+    assert_eq!(on_open("hint 0 1\nhint 9 16\nhint 0 300"), "refused 12\n".repeat(3));
+    assert_eq!(on_k1("hint 0 2\nshow\nheld"), format!("distance 0 3\n{}", on_k1("show\nheld")));
 }
 
 #[test]
@@ -191,11 +233,11 @@ fn large_numbers_are_refused_by_what_they_name() {
 #[test]
 fn with_nothing_open() {
     let calls = "report\ngate 0 0 0 0\noutput 0 0\nentry 0 0\nlimits 0 0 0\nstore 0\nheld\nshow\n\
-                 sweep\nappend 300 300 300\n";
-    assert_eq!(answers(calls), "refused 13\n".repeat(10));
+                 sweep\nappend 300 300 300\nhint 300 300\n";
+    assert_eq!(answers(calls), "refused 13\n".repeat(11));
     assert_eq!(
         answers(&format!("new\n{OPEN}new\n{calls}")),
-        format!("new\nopened\nnew\n{}", "refused 13\n".repeat(10))
+        format!("new\nopened\nnew\n{}", "refused 13\n".repeat(11))
     );
 }
 
@@ -211,6 +253,7 @@ fn unknown_words_and_counts_are_no_call() {
     all_unreadable(&["gate 0 3 0", "gate 0 3 0 1 1", "output 0", "output 0 0 0", "entry 0", "limits 1 1"]);
     all_unreadable(&["sweep 0", "sweep all", "Sweep", "sweeps", "append", "append 0 0", "append 0 0 0 0"]);
     all_unreadable(&["build 3 03 2", "build 3 03 2 29 1", "distance 4 01 00 1", "distance 4 01 00 1 1 1"]);
+    all_unreadable(&["hint", "hint 0", "hint 0 1 1", "Hint 0 1", "hints 0 1", "hint0 1"]);
     all_unreadable(&["late", "late 3 000000 07 03", "late 3 000000 07 03 29 1", "Late 3 000000 07 03 29"]);
     all_unreadable(&["equations", "equations -", "equations - 1 1", "equations 7 1", "equations 79 x"]);
     all_unreadable(&["open - matrix - 0 0", "open - Matrix - 0 0 0", "open 53 48 table - 0 0 0"]);
@@ -230,6 +273,7 @@ fn numbers_and_hex_that_are_none() {
         "distance 4 01 0 1 1",
         "build 3 03070 2 29",
     ]);
+    all_unreadable(&["hint x 1", "hint 0 x", "hint -1 0", "hint 0 1.", "hint 18446744073709551616 0"]);
     all_unreadable(&["late x 00 01 00 8", "late 1 0 01 00 8", "late 1 00 1 00 8", "late 1 00 01 0g 8"]);
     all_unreadable(&["late 1 00 01 00 -", "late 1 00 01 00 18446744073709551616", "late 1 00 -- 00 8"]);
     all_unreadable(&["open 5 matrix - 0 0 0", "open 5g matrix - 0 0 0", "open -- matrix - 0 0 0"]);

@@ -3,7 +3,7 @@
 use reference::bench::Bench;
 use reference::builder::{build, build_into};
 use reference::circuit::{self, Circuit, Gate};
-use reference::distance::distance;
+use reference::distance::{distance, Distance};
 use reference::examine::{work, Limits, Target, Verdict};
 use reference::plain::builder::build as build_plain;
 
@@ -45,10 +45,11 @@ fn k1_to_k5_build() {
 #[test]
 fn k6_and_k7_distance() {
     let depths = [0, 0, 0, 0, 2];
-    let k6 = |d| distance(4, &[1, 2, 4, 8, 7], &depths, 15, d);
-    let k7 = |d| distance(4, &[1, 2, 4, 8, 15], &depths, 7, d);
-    assert_eq!([k6(3), k6(2), k6(1)], [Ok(Some(1)), Ok(Some(3)), Ok(None)]);
-    assert_eq!([k7(3), k7(2), k7(1)], [Ok(Some(1)), Ok(Some(2)), Ok(None)]);
+    let k6 = |d| distance(4, &[1, 2, 4, 8, 7], &depths, 15, d).unwrap();
+    let k7 = |d| distance(4, &[1, 2, 4, 8, 15], &depths, 7, d).unwrap();
+    let found = |gates, lines: &[usize]| Some(Distance { gates, lines: lines.to_vec() });
+    assert_eq!([k6(3), k6(2), k6(1)], [found(1, &[3, 4]), found(3, &[0, 1, 2, 3]), None]);
+    assert_eq!([k7(3), k7(2), k7(1)], [found(1, &[3, 4]), found(2, &[0, 1, 2]), None]);
 }
 
 #[test]

@@ -1,6 +1,6 @@
-//! A designer's morning in Rust: build an XOR program, open it, break a gate, look, mend it, store; build it for an input that
-//! comes late; read an equation file with a slip, mend it, open it with its table; append a gate in another's place, point an
-//! output at it, sweep the other out.
+//! A designer's morning in Rust: build an XOR program, open it, break a gate, look, ask which lines make its row, mend it, store;
+//! build it for an input that comes late; read an equation file with a slip, mend it, open it with its table; append a gate in
+//! another's place, point an output at it, sweep the other out.
 
 use allpawasi::{build, build_late, distance, equations, Bench, Limits, Refusal};
 
@@ -17,11 +17,14 @@ fn main() -> Result<(), Refusal> {
 
     println!("reworked {:?}", bench.replace_gate(0, 0, 0, 2)?);
     println!("{:?}", bench.report()?.verdict);
+    println!("{:?}", bench.hint(0, 2)?); // row 0 is lines 0 and 1
+    println!("{:?}", bench.hint(0, 0)?);
+    println!("{:?}", bench.hint(3, 2));
     println!("{:?}", bench.replace_gate(0, 2, 0, 1));
     bench.replace_gate(0, 0, 0, 1)?;
     println!("{:?}", bench.report()?.verdict);
     println!("stored {} bytes", bench.store(&mut room)?);
-    println!("distance {:?}", distance(3, &rows, &[0, 0, 0], 5, 4)?);
+    println!("{:?}", distance(3, &rows, &[0, 0, 0], 5, 4)?);
 
     let arrivals = [2, 0, 0]; // the first input goes in last
     let count = build_late(3, &arrivals, &rows, &[3, 3, 1], &mut room)?;

@@ -1,7 +1,9 @@
-//! The circuit bench, the builder, the distance query and the reader of equation files, proved in Rattle. Nothing is tested
+//! The circuit bench, the builder, the distance query, hints and the reader of equation files, proved in Rattle. Nothing is tested
 //! here: the proved functions answer every input, and this only turns their numbers into Rust's own types.
 
 mod raw;
+
+use std::fmt;
 
 pub use raw::Words;
 
@@ -42,6 +44,28 @@ pub struct Report {
     pub depth: usize,
     pub and_depth: usize,
     pub verdict: Verdict,
+}
+
+/// How far a mask is from some lines: how many XOR gates make it, and of which lines.
+#[derive(Clone, Copy, PartialEq, Eq)]
+pub struct Distance(raw::Found);
+
+impl Distance {
+    /// The fewest gates.
+    pub fn gates(&self) -> usize {
+        self.0.code as usize
+    }
+
+    /// The lines that they sum, one more, ascending: of the smallest sets the one whose numbers come first.
+    pub fn lines(&self) -> &[u16] {
+        &self.0.lines[..self.0.count]
+    }
+}
+
+impl fmt::Debug for Distance {
+    fn fmt(&self, f: &mut fmt::Formatter) -> fmt::Result {
+        f.debug_struct("Distance").field("gates", &self.gates()).field("lines", &self.lines()).finish()
+    }
 }
 
 /// One circuit, one target and three limits, with what is held for each line. Two are equal where every number of theirs is, also
@@ -122,6 +146,12 @@ impl Bench {
         })
     }
 
+    /// How far a row of the matrix is from the circuit's lines within a depth, by their numbers in the circuit; or none. Lines deeper
+    /// than 15 are left out.
+    pub fn hint(&self, row: usize, depth: usize) -> Result<Option<Distance>, Refusal> {
+        found(raw::hint(&self.0, row, depth))
+    }
+
     /// The stored bytes first in the room, and how many.
     pub fn store(&self, room: &mut [u8]) -> Result<usize, Refusal> {
         counted(raw::store(&self.0, room))
@@ -150,13 +180,9 @@ pub fn build_late(n: usize, arrivals: &[u8], rows: &[u8], limits: &[u8], room: &
     counted(raw::build_late(n, arrivals, rows, limits, room))
 }
 
-/// The fewest XOR gates that make a target over a base of masks and depths, or none.
-pub fn distance(n: usize, masks: &[u8], depths: &[u8], target: usize, depth: usize) -> Result<Option<u64>, Refusal> {
-    match raw::distance(n, masks, depths, target, depth) {
-        99 => Ok(None),
-        code if code >= 100 => Err(code as usize - 100),
-        gates => Ok(Some(gates)),
-    }
+/// How far a target is from a base within a depth, or none: line i of the base has `masks[i]` and `depths[i]`.
+pub fn distance(n: usize, masks: &[u8], depths: &[u8], target: usize, depth: usize) -> Result<Option<Distance>, Refusal> {
+    found(raw::distance(n, masks, depths, target, depth))
 }
 
 /// Reads an equation file: its circuit's stored bytes first in the room, and how many.
@@ -175,6 +201,15 @@ fn accepted(refusal: usize) -> Result<(), Refusal> {
 /// A count below 65,536, or 65,536 times a refusal's number.
 fn counted(code: usize) -> Result<usize, Refusal> {
     if code < 65_536 { Ok(code) } else { Err(code / 65_536) }
+}
+
+/// A distance, 99 for none, or 100 and a refusal's number.
+fn found(found: raw::Found) -> Result<Option<Distance>, Refusal> {
+    match found.code {
+        99 => Ok(None),
+        code if code >= 100 => Err(code as usize - 100),
+        _ => Ok(Some(Distance(found))),
+    }
 }
 
 /// The lines' numbers are below 256, so that each is a byte.

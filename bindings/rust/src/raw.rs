@@ -2,11 +2,12 @@
 
 use crate::Limits;
 
-/// How many outputs, gates and lines a circuit may have, and how many input values.
+/// How many outputs, gates and lines a circuit may have, how many input values, and how many lines a smallest set.
 const OUTPUTS: usize = 32;
 const GATES: usize = 248;
 const LINES: usize = 256;
 const VALUES: usize = 256;
+const SET: usize = 8;
 
 /// A line's values: input value x at bit x % 64 of word x / 64.
 #[repr(C)]
@@ -56,6 +57,16 @@ pub struct Figures {
     pub output: usize,
 }
 
+/// The code is a number of gates, 99 for none, or 100 and a refusal's number. Of the lines only the first `count` are any, and the
+/// rest is 0.
+#[repr(C)]
+#[derive(Clone, Copy, PartialEq, Eq)]
+pub struct Found {
+    pub code: u64,
+    pub count: usize,
+    pub lines: [u16; SET],
+}
+
 #[repr(C)]
 pub struct Reading {
     pub refusal: usize,
@@ -101,7 +112,8 @@ extern "C" {
     fn allpawasi_restore(bytes: *const u8, length: usize, only: bool, room: *mut u8, room_length: usize) -> usize;
     fn allpawasi_build(n: usize, rows: *const u8, count: usize, depth: usize, room: *mut u8, length: usize) -> usize;
     fn allpawasi_build_late(n: usize, arrivals: *const u8, arrival_count: usize, rows: *const u8, row_count: usize, limits: *const u8, limit_count: usize, room: *mut u8, length: usize) -> usize;
-    fn allpawasi_distance(n: usize, masks: *const u8, lines: usize, depths: *const u8, count: usize, target: usize, depth: usize) -> u64;
+    fn allpawasi_distance(n: usize, masks: *const u8, lines: usize, depths: *const u8, count: usize, target: usize, depth: usize) -> Found;
+    fn allpawasi_hint(bench: &Bench, j: usize, depth: usize) -> Found;
     fn allpawasi_equations(text: *const u8, length: usize, room: *mut u8, room_length: usize) -> Reading;
 }
 
@@ -157,8 +169,12 @@ pub fn build_late(n: usize, arrivals: &[u8], rows: &[u8], limits: &[u8], room: &
     unsafe { allpawasi_build_late(n, arrivals.as_ptr(), arrivals.len(), rows.as_ptr(), rows.len(), limits.as_ptr(), limits.len(), room.as_mut_ptr(), room.len()) }
 }
 
-pub fn distance(n: usize, masks: &[u8], depths: &[u8], target: usize, depth: usize) -> u64 {
+pub fn distance(n: usize, masks: &[u8], depths: &[u8], target: usize, depth: usize) -> Found {
     unsafe { allpawasi_distance(n, masks.as_ptr(), masks.len(), depths.as_ptr(), depths.len(), target, depth) }
+}
+
+pub fn hint(bench: &Bench, j: usize, depth: usize) -> Found {
+    unsafe { allpawasi_hint(bench, j, depth) }
 }
 
 pub fn equations(text: &[u8], room: &mut [u8]) -> Reading {

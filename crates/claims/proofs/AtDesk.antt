@@ -4,12 +4,14 @@
 -- line before left, its answer written, and the bench after the last. `callsTyped` (talk/specs/Talk) are the calls that they make since the last `new`.
 use mathlib.Core.Path.{_≡_, sym, ap, _∙_}
 use mathlib.Core.List.{List, [], _∷_, _++_}
-use Prim.Native.Nat.{ℕ, _+_}
-use lib.ListN.{length, take}
+use Prim.Native.Nat.{ℕ, _+_, _-_}
+use lib.ListN.{length, take, replicate}
+use lib.Seq.{take-append-seam}
 use Rattle.circuit.specs.declared.Answer.{Answer}
 use Rattle.circuit.specs.declared.Answer.the-variants.{Done}
 use Rattle.stored.specs.Stored.{stored}
 use Rattle.sweep.specs.Sweep.{swept}
+use Rattle.distance.specs.Query.{answerOf, linesOf}
 use Rattle.builder.specs.Late.{lateBuilt, lateAnswer}
 use Rattle.drawing.specs.Drawing.{drawnAnswer, drawnBytes}
 use Rattle.bench.specs.declared.Bench.{Bench}
@@ -21,11 +23,12 @@ use Rattle.bench.specs.Run.{Call, presentAfter, Runs}
 use Rattle.bench.proofs.Readers.{Lists}
 use Rattle.bench.proofs.RunLaws.{after-calls}
 use Rattle.bench.proofs.Unique.{one-present}
-use Rattle.script.specs.Order.{Order, askNew, askReport, askGate, askSweep, askAppend, askLate, askEquations}
+use Rattle.hint.specs.Hint.{hintOf}
+use Rattle.script.specs.Order.{Order, askNew, askReport, askGate, askSweep, askAppend, askHint, askLate, askDistance, askEquations}
 use Rattle.script.specs.Reading.{orderIn}
 use Rattle.talk.specs.declared.Told.{Told}
 use Rattle.talk.specs.Words.{builtName}
-use Rattle.talk.specs.Texts.{acceptedText, reworkedText, reportedText, writtenText, drawnText}
+use Rattle.talk.specs.Texts.{acceptedText, reworkedText, reportedText, writtenText, drawnText, distanceText, hintedText}
 use Rattle.talk.specs.Talk.{Deed, calling, deedOf, presentBy, presentAfterLines, textOf, written, callsTyped, Answers}
 use Rattle.talk.proofs.Sessions.{Session, session-from-empty, sessions-go-on}
 use Rattle.talk.proofs.Typed as typed
@@ -132,3 +135,14 @@ module _ {lines : List (List ℕ)} {text : List ℕ} {b : Bench} (session : Sess
     -- `equations` writes the stored circuit of the file, or the refusal with its place, and leaves the bench.
     pub equations-writes : (file : List ℕ) (room : ℕ) → orderIn line ≡ askEquations file room → (bytes ≡ drawnText (drawnAnswer file room) (drawnBytes file)) × (r .bench ≡ b)
     equations-writes file room e = (says (askEquations file room) e, no-call-leaves (ap deedOf e))
+
+    -- `distance` writes the distance and the lines of its set, in ascending order, or the refusal, and leaves the bench;
+    pub distance-writes : (n : ℕ) (ms ds : List ℕ) (t D : ℕ) → orderIn line ≡ askDistance n ms ds t D
+        → (bytes ≡ distanceText (answerOf n ms ds t D) (linesOf n ms ds t D)) × (r .bench ≡ b)
+    distance-writes n ms ds t D e =
+        let xs = linesOf n ms ds t D in
+        (says (askDistance n ms ds t D) e ∙ ap (distanceText (answerOf n ms ds t D)) (take-append-seam xs (replicate (8 - length xs) 0)), no-call-leaves (ap deedOf e))
+
+    -- and so does `hint`, of what is present.
+    pub hint-writes : (j D : ℕ) → orderIn line ≡ askHint j D → (bytes ≡ hintedText (hintOf now j D)) × (r .bench ≡ b)
+    hint-writes j D e = (says (askHint j D) e, no-call-leaves (ap deedOf e))

@@ -37,6 +37,8 @@
 --   |   set_limits                                             | set-limits-determined                             |
 --   |   sweep, append_gate                                     | sweep-determined, append-gate-determined          |
 --   |   report, store                                          | report-determined, store-determined               |
+--   | hint and lent hint                                       | hint-determined                                   |
+--   | hint hint_no, linked::allpawasi_hint                     | hint-number-determined                            |
 --   | text put, put_labelled, put_numbered, put_numbers,       |                                                   |
 --   |   put_hex, put_unhex                                     | put-determined                                    |
 --   | text next_word, to_front                                 | next-word-determined, to-front-determined         |
@@ -53,6 +55,7 @@ use Rattle.circuit.specs.declared.Circuit.{Circuit}
 use Rattle.stored.specs.declared.Writing.{Writing}
 use Rattle.stored.specs.Writing.{Wrote, Restored}
 use Rattle.stored.proofs.Written as writing
+use Rattle.distance.specs.declared.FoundNumbers.{FoundNumbers}
 use Rattle.distance.specs.Table.{TakenIn}
 use Rattle.distance.proofs.Unique as distances
 use Rattle.builder.specs.Call.{Builds, BuildsNumbered}
@@ -74,6 +77,9 @@ use Rattle.bench.specs.Calls.{View, OpenGiven, GateGiven, OutputGiven, EntryGiv
 use Rattle.bench.specs.Run.{Call, presentAfter, Runs}
 use Rattle.bench.proofs.RunLaws.{after-calls}
 use Rattle.bench.proofs.Unique as benches
+use Rattle.hint.specs.declared.Hinted.{Hinted}
+use Rattle.hint.specs.Hint.{HintPromise, HintCode}
+use Rattle.hint.proofs.Theorems as hints
 use Rattle.coded.specs.declared.ReadingNumbers.{ReadingNumbers}
 use Rattle.coded.specs.Coded.{EquationsCode}
 use Rattle.text.specs.declared.Word.{Word}
@@ -198,6 +204,17 @@ module _ (v : View) where
 
     pub store-determined : (room : List ℕ) (r s : v .Writings) (out last : List ℕ) → StoreGiven v b room r out → StoreGiven v b room s last → (r ≡ s) × (out ≡ last)
     store-determined = benches.store-unique v b now stands
+
+-- ---- a hint, on a bench that calls yield
+
+module _ {b : Bench} {calls : List Call} (run : Runs emptyBench calls b) where
+  -- as it is,
+  pub hint-determined : (j D : ℕ) (r s : Hinted) → HintPromise b j D r → HintPromise b j D s → r ≡ s
+  hint-determined j D = hints.hint-unique b j D (presentAfter calls) (after-calls run)
+
+  -- and in numbers
+  pub hint-number-determined : (j D : ℕ) (r s : FoundNumbers) → HintCode b j D r → HintCode b j D s → r ≡ s
+  hint-number-determined j D = hints.hint-no-unique b j D (presentAfter calls) (after-calls run)
 
 -- ---- a line of the call language, on a bench that calls yield
 

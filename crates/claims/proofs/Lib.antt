@@ -9,6 +9,7 @@ pub mod Examples
 pub mod Determined
 pub mod ToOutputs
 pub mod Sweeping
+pub mod Hints
 pub mod Tables
 pub mod Causes
 pub mod Following

@@ -153,6 +153,20 @@ distanceTable n ms ds t D =
     (first 8 ((Some (λ (m : ℕ). 2 ^ n ≤ m) ms ⊎ (t ≡ 0)) ⊎ (2 ^ n ≤ t))
     (first 9 (Some (λ (d : ℕ). 16 ≤ d) ds ⊎ (15 < D)) accepted)))
 
+-- there is no row j: the target is no matrix, or has not so many
+abbrev pub NoRow : Target → ℕ → Type 0
+NoRow (matrix rows) j = length rows ≤ j
+NoRow (table entries) j = Unit {0}
+
+-- row j is 0
+abbrev pub RowIsZero : Target → ℕ → Type 0
+RowIsZero (matrix rows) j = getD rows j 0 ≡ 0
+RowIsZero (table entries) j = ⊥
+
+-- hint: 13; no matrix or no row j (12); then as a query, of which the row (8) and the depth (9) are left
+abbrev pub hintTable : Present → ℕ → ℕ → ℕ → Type 0
+hintTable p j D = whenOpen p (λ s. first 12 (NoRow (s .target) j) (first 8 (RowIsZero (s .target) j) (first 9 (15 < D) accepted)))
+
 -- 15: p is the place of the first byte that no good text has there, and no name that ends at or before it is at fault
 abbrev pub BadTextAt : List ℕ → ℕ → Type 0
 BadTextAt s p = Place s p × ((a : ℕ) → wordEnd s a ≤ p → Fault s a → ⊥)

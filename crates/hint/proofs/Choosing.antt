@@ -2,21 +2,22 @@
 -- lines is a set. Assumes nothing.
 use mathlib.Core.Path.{_≡_, refl, ap, ap₂, _∙_, sym, subst}
 use mathlib.Core.Bool.{Bool, true, false, cond}
-use mathlib.Core.Logic.{_⊎_, inl, inr, ⊎-elim}
+use mathlib.Core.Logic.{inl, inr, ⊎-elim}
 use mathlib.Core.List.{List, [], _∷_, _++_, map, append-assoc, List·Memᴰ, List·Memᴰ·head, List·Memᴰ·tail, List·Memᴰ·not-nil, List·Memᴰ·cases-cons}
 use Prim.Native.Nat.{ℕ, zero, suc, _+_, _^_, _≤_, _<_}
 use native.Mathlib.Omega.{arith}
 use borrow.Author.Tests.{eqb-true, eqb-false, leb-true, le-leb}
 use lib.Bits.{bitXor}
 use lib.Dec.{eqb, leb}
-use lib.ListN.{length, getD, length-append, List·getD-map, List·getD-eq-default}
+use lib.ListN.{length, getD, replicate, length-append, length-replicate, List·getD-map, List·getD-eq-default}
 use lib.Seq.{getD-at}
-use Rattle.circuit.proofs.LineLaws.{place}
+use Rattle.circuit.specs.Lines.{Listing, gateAt, depthStep}
+use Rattle.circuit.proofs.LineLaws.{place, lines-length}
 use Rattle.distance.specs.Base.{Line, baseOf, setSize, maskOf, costOf}
 use Rattle.distance.specs.Distance.{numbers, Leads}
 use Rattle.bench.specs.Calls.{placesFrom}
 use Rattle.bench.proofs.Places.{Ascending, places-ascend, listed-marked, marked-listed}
-use Rattle.hint.specs.Hint.{sumOf, shallow, picked}
+use Rattle.hint.specs.Hint.{sumOf, depthsOf, shallow, picked}
 
 -- ---- lists of numbers
 
@@ -50,8 +51,13 @@ each-at P (x ∷ xs) e y m = ⊎-elim (λ q. subst P (sym q) (e .0)) (λ r. each
 each-from : (i j : ℕ) (xs : List ℕ) → i ≤ j → Each (λ (y : ℕ). j ≤ y) xs → Each (λ (y : ℕ). i ≤ y) xs
 each-from i j xs l = each-map (λ (y : ℕ). j ≤ y) (λ (y : ℕ). i ≤ y) xs (λ y h. omega arith)
 
-each-to : (i j : ℕ) (xs : List ℕ) → i ≤ j → Each (λ (y : ℕ). y < i) xs → Each (λ (y : ℕ). y < j) xs
+pub each-to : (i j : ℕ) (xs : List ℕ) → i ≤ j → Each (λ (y : ℕ). y < i) xs → Each (λ (y : ℕ). y < j) xs
 each-to i j xs l = each-map (λ (y : ℕ). y < i) (λ (y : ℕ). y < j) xs (λ y h. omega arith)
+
+pub each-get : (P : ℕ → Type 0) (xs : List ℕ) (k : ℕ) → k < length xs → Each P xs → P (getD xs k 0)
+each-get P [] k h e = absurd (omega arith)
+each-get P (x ∷ xs) zero h e = e .0
+each-get P (x ∷ xs) (suc k) h e = each-get P xs k (omega arith) (e .1)
 
 -- what stands there, whatever counts past the end
 there-same : (l : List ℕ) (k a b : ℕ) → k < length l → getD l k a ≡ getD l k b
@@ -60,6 +66,10 @@ there-same (x ∷ l) zero a b h = refl
 there-same (x ∷ l) (suc k) a b h = there-same l k a b (omega arith)
 
 -- ---- the lines at most 15 deep
+
+-- a circuit has a line for each input and each gate
+pub lines-many : (c : Listing) → length (depthsOf c) ≡ c .inputs + length (c .gates)
+lines-many c = lines-length depthStep 0 (replicate (c .inputs) 0) (gateAt c) (length (c .gates)) ∙ ap (λ (k : ℕ). k + length (c .gates)) (length-replicate (c .inputs) 0)
 
 places-rise : (i : ℕ) (xs : List Bool) → Each (λ (y : ℕ). i ≤ y) (placesFrom i xs) × Rising (placesFrom i xs)
 unfolding placesFrom

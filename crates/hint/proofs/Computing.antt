@@ -12,7 +12,7 @@ use lib.ListN.{length, getD, List·getD-map, List·getD-eq-default}
 use lib.Pow.{pow-pos, pow-lt}
 use Rattle.circuit.specs.declared.Answer.the-variants.{Done}
 use Rattle.circuit.specs.Gate.{bit, rowOn, truth, kindOf}
-use Rattle.circuit.specs.Lines.{Gate, Listing, gateAt, lines, reads, upto, truthStep, inputsOn, values}
+use Rattle.circuit.specs.Lines.{Gate, Listing, gateAt, lines, reads, truthStep, values}
 use Rattle.circuit.specs.Rules.{listingAnswer}
 use Rattle.circuit.specs.Sizes.{mostInputs}
 use Rattle.circuit.proofs.LineLaws.{snoc-all, place}

@@ -1,8 +1,7 @@
 -- Hints worked out by the definitions. Assumes nothing.
 use mathlib.Core.Path.{_≡_, refl}
 use mathlib.Core.List.{List, [], _∷_}
-use Prim.Native.Nat.{ℕ}
-use Rattle.circuit.specs.Lines.{Gate, Listing, gate, listing, lines, reads, upto}
+use Rattle.circuit.specs.Lines.{Gate, gate, listing, lines, reads, upto}
 use Rattle.distance.specs.Query.{lookAt, answerOf, linesOf}
 use Rattle.bench.specs.Calls.{placesFrom}
 use Rattle.hint.specs.declared.Answer.the-variants.{Gates, Never}

@@ -1,5 +1,5 @@
 -- The lines that a query answers: at most as many as there are inputs, each one of its base; and their numbers in the circuit. Assumes nothing.
-use mathlib.Core.Path.{_≡_, refl, ap, ap₂, _∙_, sym}
+use mathlib.Core.Path.{_≡_, refl, ap, _∙_, sym}
 use mathlib.Core.Bool.{Bool, true, false, cond, _&&_}
 use mathlib.Core.List.{List, [], _∷_, map}
 use Prim.Native.Nat.{ℕ, zero, suc, _+_, _-_, _^_, _≤_, _<_}
@@ -17,14 +17,15 @@ use Rattle.distance.specs.declared.Found.{Found}
 use Rattle.distance.specs.declared.Looked.{Looked}
 use Rattle.distance.specs.declared.Looked.the-variants.{Sound, Unsound}
 use Rattle.distance.specs.Base.{Line, baseOf}
-use Rattle.distance.specs.Distance.{can, gapFrom, distance, numbers, firstSet, gapLines}
+use Rattle.distance.specs.Distance.{can, gapFrom, distance, numbers, firstSet, gapLines, gates}
 use Rattle.distance.specs.Query.{lookAt, linesWhere, linesOf, inEight, foundOf}
 use Rattle.bench.specs.declared.Bench.{Bench}
 use Rattle.hint.specs.declared.Answer.{Answer}
 use Rattle.hint.specs.declared.Base.{Base}
 use Rattle.hint.specs.declared.Hinted.{Hinted}
-use Rattle.hint.specs.Hint.{picked, hintAnswer, hinted}
+use Rattle.hint.specs.Hint.{picked, hintAnswer}
 use Rattle.hint.specs.Parts.{masksOn, shallowAmong, gathered, numbered, hintOn}
+use Rattle.hint.proofs.Choosing.{Each, each-to, each-get, numbers-each}
 use Rattle.hint.proofs.Gathering.{among-few}
 
 -- ---- what a query answers
@@ -32,20 +33,12 @@ use Rattle.hint.proofs.Gathering.{among-few}
 -- at most n numbers, each below m
 pub record Among (n m : ℕ) (xs : List ℕ) : Type 0 where
   pub few : length xs ≤ n
-  pub below : (k : ℕ) → k < length xs → getD xs k 0 < m
+  pub below : Each (λ (x : ℕ). x < m) xs
 
 none-among : (n m : ℕ) → Among n m []
-none-among n m = record { few = omega arith; below = λ k h. absurd (omega arith) }
+none-among n m = record { few = omega arith; below = tt }
 
--- the numbers of a set are below the number of lines
-numbers-below : (i : ℕ) (ls : List Line) (c : List Bool) (k : ℕ) → k < length (numbers i ls c) → getD (numbers i ls c) k 0 < i + length ls
-numbers-below i [] c k h = absurd (omega arith)
-numbers-below i (l ∷ ls) [] k h = absurd (omega arith)
-numbers-below i (l ∷ ls) (true ∷ c) zero h = omega arith
-numbers-below i (l ∷ ls) (true ∷ c) (suc k) h = omega (arith, numbers-below (suc i) ls c k (omega arith))
-numbers-below i (l ∷ ls) (false ∷ c) k h = omega (arith, numbers-below (suc i) ls c k h)
-
--- and no more than were asked for
+-- a set has no more lines than were asked for
 first-few : (i : ℕ) (ls : List Line) (k t b : ℕ) → length (numbers i ls (firstSet k t b ls)) ≤ k
 first-few i [] zero t b = omega arith
 first-few i [] (suc k) t b = omega arith
@@ -63,10 +56,10 @@ gap-among : (f g t D : ℕ) (ls : List Line) → Among (g + f) (length ls) (gapL
 gap-among zero g t D ls = none-among (g + 0) (length ls)
 gap-among (suc f) g t D ls = go (can (suc g) t (2 ^ D) ls) (gap-among f (suc g) t D ls) where
   go : (x : Bool) → Among (suc g + f) (length ls) (gapLines (gapFrom f (suc g) t (2 ^ D) ls) t D ls)
-      → Among (g + suc f) (length ls) (gapLines (cond x (Rattle.distance.specs.Distance.gates g) (gapFrom f (suc g) t (2 ^ D) ls)) t D ls)
+      → Among (g + suc f) (length ls) (gapLines (cond x (gates g) (gapFrom f (suc g) t (2 ^ D) ls)) t D ls)
   go true r =
       let c = firstSet (suc g) t (2 ^ D) ls in
-      record { few = omega (arith, first-few 0 ls (suc g) t (2 ^ D)); below = λ k h. omega (arith, numbers-below 0 ls c k h) }
+      record { few = omega (arith, first-few 0 ls (suc g) t (2 ^ D)); below = each-to (0 + length ls) (length ls) (numbers 0 ls c) (omega arith) (numbers-each 0 ls c) }
   go false r = record { few = omega (arith, r .few); below = r .below }
 
 pub lines-among : (n : ℕ) (ms ds : List ℕ) (t D : ℕ) → Among n (length (baseOf ms ds)) (linesOf n ms ds t D)
@@ -95,14 +88,14 @@ unfolding numbered
 numbered-put ls places k ns v h e t = ap (λ (l : List ℕ). set l k v) t ∙ upto-put 8 0 (λ (i : ℕ). getD ls (lineIn (getD places i 0)) 0) k v e h
 
 -- from places that are below the lines there may be
-pub numbered-is : (is xs : List ℕ) → ((k : ℕ) → k < length xs → getD xs k 0 < mostLines)
+pub numbered-is : (is xs : List ℕ) → Each (λ (x : ℕ). x < mostLines) xs
     → numbered (padded mostLines 0 is) (inEight xs) (length xs) ≡ inEight (picked xs is)
 unfolding numbered
 numbered-is is xs below =
     let at : ℕ → ℕ = λ p. getD is p 0 in
     let each : (k : ℕ) → k < length xs → getD (padded mostLines 0 is) (lineIn (getD (inEight xs) k 0)) 0 ≡ getD is (getD xs k 0) 0 = λ k h.
     ap (λ (p : ℕ). getD (padded mostLines 0 is) (lineIn p) 0) (pad-read xs (8 - length xs) k 0)
-    ∙ ap (λ (p : ℕ). getD (padded mostLines 0 is) p 0) (line-kept _ (below k h)) ∙ pad-read is (mostLines - length is) (getD xs k 0) 0 in
+    ∙ ap (λ (p : ℕ). getD (padded mostLines 0 is) p 0) (line-kept _ (each-get (λ (x : ℕ). x < mostLines) xs k h below)) ∙ pad-read is (mostLines - length is) (getD xs k 0) 0 in
     ap inEight (upto-same _ (λ (k : ℕ). getD is (getD xs k 0) 0) (length xs) each ∙ sym (map-upto at (λ (k : ℕ). getD xs k 0) (length xs)) ∙ ap (map at) (upto-all xs 0))
 
 -- ---- the query from the lines on a bench
@@ -138,8 +131,9 @@ module _ (b : Bench) (t D : ℕ) (base : Base) (found : Found) (n-most : b .n �
   unfolding gathered hintOn
   asked-is a ns ea en =
       let f = found-is in
-      let below : (k : ℕ) → k < length xs → getD xs k 0 < mostLines = λ k h.
-      omega (arith, lines-among (b .n) ms ds t D .below k h, base-short ms ds, length-map is (λ (i : ℕ). getD (masksOn b) i 0), among-few (b .depths) (b .n + b .g)) in
+      let few : length (baseOf ms ds) ≤ mostLines =
+      omega (arith, base-short ms ds, length-map is (λ (i : ℕ). getD (masksOn b) i 0), among-few (b .depths) (b .n + b .g)) in
+      let below = each-to (length (baseOf ms ds)) mostLines xs few (lines-among (b .n) ms ds t D .below) in
       let p = ea ∙ ap (λ (x : Found). hintAnswer (x .answer)) f in
       let q = en ∙ (λ i. numbered (based i .lines) (f i .lines) (f i .count)) ∙ numbered-is is xs below in
       let r = ap (λ (x : Found). x .count) f ∙ sym (length-map xs _) in

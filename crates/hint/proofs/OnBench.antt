@@ -1,8 +1,8 @@
 -- From what a bench holds to the hint of its state. Assumes nothing.
 use mathlib.Core.Path.{_≡_, refl, ap, ap₂, _∙_, sym}
-use mathlib.Core.Bool.{Bool, true, false, cond, _&&_, true≢false}
-use mathlib.Core.List.{List, [], _∷_, _++_, map}
-use Prim.Native.Nat.{ℕ, _+_, _-_, _≤_, _<_}
+use mathlib.Core.Bool.{Bool, true, false, cond, true≢false}
+use mathlib.Core.List.{List, [], _∷_, _++_}
+use Prim.Native.Nat.{ℕ, _+_, _-_}
 use native.Mathlib.Omega.{arith}
 use borrow.Author.Tests.{eqb-true}
 use lib.Dec.{ltb, eqb}
@@ -18,14 +18,14 @@ use Rattle.circuit.proofs.Upto.{upto-same, upto-all}
 use Rattle.distance.specs.Query.{answerOf, linesOf}
 use Rattle.targets.specs.Target.{Target, matrix, table, isMatrix, targetBytes, targetFits}
 use Rattle.bench.specs.declared.Bench.{Bench}
-use Rattle.bench.specs.State.{State, Present, present, Sound}
+use Rattle.bench.specs.State.{State, Present}
 use Rattle.bench.specs.Held.{fullBench}
 use Rattle.bench.specs.Parts.{gateOn}
 use Rattle.bench.proofs.Standing.{gate-of}
 use Rattle.bench.proofs.Stood.{openOn, when-open, when-shut}
 use Rattle.hint.specs.declared.Hinted.{Hinted}
-use Rattle.hint.specs.Hint.{maskStep, inputMasks, masks, masksOf, depthsOf, shallow, picked, hintAnswer, hinted, noHint, hintFor, hintUnder, hintOf, HintPromise}
-use Rattle.hint.specs.Parts.{masksOn, shallowAmong, hintOn, isRow}
+use Rattle.hint.specs.Hint.{maskStep, inputMasks, masks, depthsOf, shallow, picked, hintAnswer, hinted, noHint, hintFor, hintUnder, hintOf, HintPromise}
+use Rattle.hint.specs.Parts.{masksOn, hintOn, isRow}
 
 -- zeros past the last line change nothing
 picked-padded : (is xs : List ℕ) (m : ℕ) → picked is (xs ++ replicate m 0) ≡ picked is xs

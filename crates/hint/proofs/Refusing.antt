@@ -1,18 +1,18 @@
 -- Which hints are refused in a state that keeps every rule: of a row that is there, those whose depth is above 15, and no others. Assumes nothing.
-use mathlib.Core.Path.{_≡_, refl, ap, ap₂, _∙_, sym, subst}
-use mathlib.Core.Bool.{Bool, true, false, not, _||_, _&&_}
+use mathlib.Core.Path.{_≡_, refl, ap, ap₂, _∙_, sym}
+use mathlib.Core.Bool.{Bool, true, false, not, _||_}
 use mathlib.Core.List.{List, [], _∷_, List·Memᴰ, List·Memᴰ·not-nil}
-use Prim.Native.Nat.{ℕ, zero, suc, _+_, _^_, _≤_, _<_}
+use Prim.Native.Nat.{ℕ, zero, suc, _^_, _≤_, _<_}
 use native.Mathlib.Omega.{arith}
-use borrow.Author.Tests.{lt-ltb, le-ltb, lt-leb, eq-eqb, ne-eqb, eqb-true, ltb-true}
-use lib.Dec.{leb, ltb, eqb}
-use lib.ListN.{length, getD, replicate, length-map, length-replicate}
+use borrow.Author.Tests.{lt-ltb, le-ltb, lt-leb, eq-eqb, ne-eqb, ltb-true}
+use lib.Dec.{ltb, eqb}
+use lib.ListN.{length, getD, replicate, length-map}
 use Rattle.circuit.specs.declared.Answer.the-variants.{Done}
 use Rattle.circuit.specs.declared.Refusal.{Refusal}
 use Rattle.circuit.specs.declared.Refusal.the-variants.{TooDeep}
 use Rattle.circuit.specs.Lines.{Listing, gateAt, lines, depths, depthStep}
 use Rattle.circuit.specs.Rules.{allOf, listingAnswer}
-use Rattle.circuit.proofs.LineLaws.{lines-length, lines-more}
+use Rattle.circuit.proofs.LineLaws.{lines-more}
 use Rattle.circuit.proofs.RuleLaws.{CircuitFits, circuit-fits}
 use Rattle.circuit.proofs.Shapes.{both}
 use Rattle.distance.specs.declared.Refusal.the-variants.{Inputs, Lists, Mask, Depth}
@@ -25,7 +25,7 @@ use Rattle.targets.specs.Target.{Target, matrix, isMatrix, rowFits, targetFits}
 use Rattle.bench.specs.State.{State, Sound}
 use Rattle.hint.specs.declared.Answer.the-variants.{Refused}
 use Rattle.hint.specs.Hint.{masksOf, depthsOf, shallow, picked, hintAnswer, hintFor}
-use Rattle.hint.proofs.Choosing.{Each, each-of, shallow-in, shallow-has}
+use Rattle.hint.proofs.Choosing.{lines-many, Each, each-of, shallow-in, shallow-has}
 use Rattle.hint.proofs.Computing.{masks-small}
 use Rattle.hint.proofs.Gathering.{shallow-few}
 
@@ -64,9 +64,6 @@ module _ (only : Bool) (c : Listing) (ok : listingAnswer only c ≡ Done) (t D :
   f : CircuitFits only c
   f = circuit-fits only c ok
 
-  lines-many : length (depthsOf c) ≡ c .inputs + length (c .gates)
-  lines-many = lines-length depthStep 0 (replicate (c .inputs) 0) (gateAt c) (length (c .gates)) ∙ ap (λ (k : ℕ). k + length (c .gates)) (length-replicate (c .inputs) 0)
-
   -- an input is there, at depth 0
   first-line : (n : ℕ) → 1 ≤ n → getD (depths n (gateAt c) (length (c .gates))) 0 0 ≡ 0
   unfolding lines
@@ -74,7 +71,7 @@ module _ (only : Bool) (c : Listing) (ok : listingAnswer only c ≡ Done) (t D :
   first-line (suc n) h = lines-more depthStep 0 (replicate (suc n) 0) (gateAt c) 0 0 (omega arith) (length (c .gates)) (omega arith)
 
   some-line : 0 < length is
-  some-line = some-there 0 is (shallow-has (depthsOf c) 0 (omega (arith, lines-many, f .shape .n-least)) (omega (arith, first-line (c .inputs) (f .shape .n-least))))
+  some-line = some-there 0 is (shallow-has (depthsOf c) 0 (omega (arith, lines-many c, f .shape .n-least)) (omega (arith, first-line (c .inputs) (f .shape .n-least))))
 
   pub look-is : lookAt (c .inputs) ms ds t D ≡ refuse (ltb 15 D) Depth Asked
   unfolding lookAt rowFits
@@ -87,7 +84,7 @@ module _ (only : Bool) (c : Listing) (ok : listingAnswer only c ≡ Done) (t D :
       let n-high = le-ltb 8 n (shape .n-most) in
       let even = ap not (eq-eqb (length ms) (length ds) (lm ∙ sym ld)) in
       let some = ne-eqb (length ms) 0 (λ e. omega (arith, lm, some-line)) in
-      let few = le-ltb 256 (length ms) (omega (arith, lm, shallow-few (depthsOf c), lines-many, shape .n-most, shape .g-most)) in
+      let few = le-ltb 256 (length ms) (omega (arith, lm, shallow-few (depthsOf c), lines-many c, shape .n-most, shape .g-most)) in
       let small = any-none (2 ^ n) ms (picked-each (λ (m : ℕ). m < 2 ^ n) (masksOf c) is (each-of _ is (λ i m. masks-small n (gateAt c) (length (c .gates)) i))) in
       let b = both (ltb 0 t) row in
       let t-some = ne-eqb t 0 (λ e. omega (arith, ltb-true 0 t (b .0))) in
@@ -112,7 +109,7 @@ module _ (only : Bool) (c : Listing) (ok : listingAnswer only c ≡ Done) (t D :
 
 -- ---- in a state that keeps every rule
 module _ (s : State) (ok : Sound s) (rows : List ℕ) (is-matrix : s .target ≡ matrix rows) (j D : ℕ) (there : j < length rows) where
-  row-fits : rowFits (s .circuit .inputs) (getD rows j 0) ≡ true
+  pub row-fits : rowFits (s .circuit .inputs) (getD rows j 0) ≡ true
   unfolding targetFits
   row-fits =
       let n = s .circuit .inputs in

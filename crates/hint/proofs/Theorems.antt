@@ -1,22 +1,20 @@
 -- What is proved of a hint: the statements, and their proofs from the laws. Assumes nothing.
 use mathlib.Core.Path.{_≡_, refl, ap, ap₂, _∙_, sym, subst}
-use mathlib.Core.Bool.{Bool, true, false, cond}
+use mathlib.Core.Bool.{Bool, true, cond}
 use mathlib.Core.List.{List, [], _∷_, map, List·Memᴰ}
 use Prim.Native.Nat.{ℕ, suc, _+_, _-_, _^_, _≤_, _<_}
 use native.Mathlib.Nat.{zero-add}
 use native.Mathlib.Omega.{arith}
 use borrow.Author.Tests.{lt-ltb, le-ltb}
-use lib.Dec.{ltb}
-use lib.ListN.{length, getD, take, replicate, length-replicate}
+use lib.ListN.{length, getD, take, replicate}
 use lib.Seq.{take-at}
 use Rattle.circuit.specs.declared.Answer.the-variants.{Done}
 use Rattle.circuit.specs.declared.Refusal.{Refusal}
 use Rattle.circuit.specs.declared.Refusal.the-variants.{TooDeep, NotThere}
 use Rattle.circuit.specs.Gate.{rowOn}
-use Rattle.circuit.specs.Lines.{Listing, gateAt, depthStep, values}
+use Rattle.circuit.specs.Lines.{Listing, gateAt, values}
 use Rattle.circuit.specs.Rules.{refusalNo, listingAnswer}
 use Rattle.circuit.specs.Sizes.{mostInputs}
-use Rattle.circuit.proofs.LineLaws.{lines-length}
 use Rattle.distance.specs.declared.Answer.{Answer as QueryAnswer}
 use Rattle.distance.specs.declared.Answer.the-variants.{Gates as QueryGates, Never as QueryNever, Refused as QueryRefused}
 use Rattle.distance.specs.declared.Refusal.{Refusal as QueryRefusal}
@@ -24,21 +22,20 @@ use Rattle.distance.specs.declared.Refusal.the-variants.{Inputs, Lists, Mask, D
 use Rattle.distance.specs.declared.Looked.{Looked}
 use Rattle.distance.specs.declared.Looked.the-variants.{Sound as Asked, Unsound as Unasked}
 use Rattle.distance.specs.declared.FoundNumbers.{FoundNumbers}
-use Rattle.distance.specs.Base.{Line, baseOf, SetOf}
+use Rattle.distance.specs.Base.{Line, SetOf}
 use Rattle.distance.specs.Distance.{Gap, gates, never, distance, numbers, firstSet, gapLines, Leads}
 use Rattle.distance.specs.Query.{queryRefusalNo, distanceCode, lookAt, answered, whereSound, answerOf, linesWhere, linesOf}
 use Rattle.distance.proofs.Fewest.{distance-smallest, distance-no-set}
 use Rattle.distance.proofs.First.{first-smallest, first-of-sets}
-use Rattle.distance.proofs.Refuse.{Fit, fit}
-use Rattle.targets.specs.Target.{Target, matrix, table, wants}
+use Rattle.distance.proofs.Refuse.{fit}
+use Rattle.targets.specs.Target.{Target, matrix, table, isMatrix, wants}
 use Rattle.bench.specs.declared.Bench.{Bench}
 use Rattle.bench.specs.State.{State, Present, nothing, present, Sound}
 use Rattle.bench.specs.Held.{Stands}
-use Rattle.hint.specs.declared.Answer.{Answer}
 use Rattle.hint.specs.declared.Answer.the-variants.{Gates, Never, Refused}
 use Rattle.hint.specs.declared.Hinted.{Hinted}
 use Rattle.hint.specs.Hint.{sumOf, masksOf, depthsOf, shallow, picked, linesFrom, hintRefusal, hintAnswer, noHint, hintFor, hintUnder, hintOf, HintPromise, hintCode, hintNo, HintCode}
-use Rattle.hint.proofs.Choosing.{Each, Rising, spentOn, each-of, shallow-rises, shallow-ascends, shallow-in, shallow-has, kept, kept-each, kept-rises, baseFor, base-length, kept-size, kept-mask, kept-cost, kept-numbers, flagsFor, kept-flags, numbers-each, leads-picked}
+use Rattle.hint.proofs.Choosing.{lines-many, Each, Rising, spentOn, each-of, shallow-rises, shallow-ascends, shallow-in, shallow-has, kept, kept-each, kept-rises, baseFor, base-length, kept-size, kept-mask, kept-cost, kept-numbers, flagsFor, kept-flags, numbers-each, leads-picked}
 use Rattle.hint.proofs.Computing as computing
 use Rattle.hint.proofs.Refusing as refusing
 
@@ -104,16 +101,12 @@ module _ (c : Listing) (t D : ℕ) where
   abbrev gap : Gap
   gap = distance (c .inputs) base t D
 
-  -- how many lines there are
-  lines-many : length (depthsOf c) ≡ c .inputs + length (c .gates)
-  lines-many = lines-length depthStep 0 (replicate (c .inputs) 0) (gateAt c) (length (c .gates)) ∙ ap (λ (k : ℕ). k + length (c .gates)) (length-replicate (c .inputs) 0)
-
   -- lines that reach t are a set of the base
   flags-keep : (ys : List ℕ) → Reaches c t D ys → kept is (flagsFor is ys) ≡ ys
   flags-keep ys r = kept-flags is ys (shallow-rises (depthsOf c)) (r .rising) (member ys (r .there) (r .flat)) where
     member : (ys : List ℕ) → Each (λ (i : ℕ). i < c .inputs + length (c .gates)) ys → Each (λ (i : ℕ). deep i ≤ 15) ys → Each (λ (y : ℕ). List·Memᴰ y is) ys
     member [] a b = tt
-    member (y ∷ ys) a b = (shallow-has (depthsOf c) y (omega (arith, a .0, lines-many)) (b .0), member ys (a .1) (b .1))
+    member (y ∷ ys) a b = (shallow-has (depthsOf c) y (omega (arith, a .0, lines-many c)) (b .0), member ys (a .1) (b .1))
 
   reach-set : (ys : List ℕ) (k : ℕ) → length ys ≡ k → Reaches c t D ys → SetOf base k t (2 ^ D)
   reach-set ys k e r =
@@ -136,7 +129,7 @@ module _ (c : Listing) (t D : ℕ) where
         let s = first-smallest (c .inputs) base t D g found in
         record {
           rising = kept-rises is chosen (shallow-rises (depthsOf c));
-          there = kept-each _ is chosen (each-of _ is (λ k m. omega (arith, shallow-in (depthsOf c) k m .0, lines-many)));
+          there = kept-each _ is chosen (each-of _ is (λ k m. omega (arith, shallow-in (depthsOf c) k m .0, lines-many c)));
           flat = kept-each _ is chosen (each-of _ is (λ k m. shallow-in (depthsOf c) k m .1));
           sum = sym (kept-mask mask deep is chosen) ∙ s .mask;
           cost = omega (arith, kept-cost mask deep is chosen, s .cost);
@@ -207,6 +200,18 @@ module _ (b : Bench) (j D : ℕ) where
   hint-is s rows k e h r m =
       m (present s) k ∙ ap (λ (t : Target). hintUnder (s .circuit) t j D) e
       ∙ ap (λ (x : Bool). cond x (hintFor (s .circuit) (getD rows j 0) D) (noHint NotThere)) (lt-ltb j (length rows) h)
+
+  -- so its lines, where it answers g gates, are the first of the fewest that reach the row, and compute on every input value what the matrix wants of output j;
+  pub hint-makes : (s : State) (rows : List ℕ) → Stands b (present s) → s .target ≡ matrix rows → j < length rows
+      → (r : Hinted) → HintPromise b j D r → (g : ℕ) → r .answer ≡ Gates g
+      → HintRight (s .circuit) (getD rows j 0) D g (told r)
+      × ((x : ℕ) → sumOf (picked (told r) (values x (s .circuit .inputs) (gateAt (s .circuit)) (length (s .circuit .gates)))) ≡ wants (matrix rows) x j)
+  hint-makes s rows k e h r m g a =
+      let c = s .circuit in
+      let is = hint-is s rows k e h r m in
+      let right = subst (λ (x : Hinted). HintRight c (getD rows j 0) D g (told x)) (sym is) (hint-right c (getD rows j 0) D g (sym (ap (λ (x : Hinted). x .answer) is) ∙ a)) in
+      let xor = subst (λ (t : Target). listingAnswer (isMatrix t) c ≡ Done) e (k .sound .circuit) in
+      (right, reached-computes c rows j D (told r) xor (right .reaches))
 
   -- and there is one such result only,
   pub hint-unique : (p : Present) → Stands b p → (r s : Hinted) → HintPromise b j D r → HintPromise b j D s → r ≡ s

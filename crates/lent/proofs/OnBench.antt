@@ -21,6 +21,10 @@ use Rattle.bench.proofs.Opened as D₁
 use Rattle.bench.proofs.Edited as D₂
 use Rattle.bench.proofs.Reported as Rep
 use Rattle.bench.proofs.Reported.Laws as Rep′
+use Rattle.distance.proofs.FoundNumbers as Fou
+use Rattle.distance.proofs.FoundNumbers.Laws as Fou′
+use Rattle.hint.proofs.Hinted as Hin
+use Rattle.hint.proofs.Hinted.Laws as Hin′
 use Rattle.coded.specs.declared.Opened.{Opened as OpenedNumbers}
 use Rattle.coded.specs.declared.Edited.{Edited as EditedNumbers}
 use Rattle.coded.proofs.EditNumbers as Num
@@ -115,6 +119,13 @@ reported = record { T = T.the-type; L = T′.the-laws; pl = T′.the-plain; cp =
 
 abbrev pub reportNumbers : View
 reportNumbers = record { T = T.the-type; L = T′.the-laws; pl = T′.the-plain; cp = T′.the-copy; RR = Fig.the-row; τ = Fig′.mir; lawful = λ 𝓤 H A W. LL.lawful Fig.the-type Fig′.the-laws 𝓤 H A W }
+
+-- a hint, and its numbers
+abbrev pub hinted : View
+hinted = record { T = T.the-type; L = T′.the-laws; pl = T′.the-plain; cp = T′.the-copy; RR = Hin.the-row; τ = Hin′.mir; lawful = λ 𝓤 H A W. LL.lawful Hin.the-type Hin′.the-laws 𝓤 H A W }
+
+abbrev pub foundNumbers : View
+foundNumbers = record { T = T.the-type; L = T′.the-laws; pl = T′.the-plain; cp = T′.the-copy; RR = Fou.the-row; τ = Fou′.mir; lawful = λ 𝓤 H A W. LL.lawful Fou.the-type Fou′.the-laws 𝓤 H A W }
 
 -- what storing answers, and its number
 abbrev pub written : View

@@ -2,10 +2,12 @@
 ghost use Rattle.targets.specs.Target.{matrix, table};
 ghost use Rattle.bench.specs.State.{limits};
 ghost use Rattle.bench.specs.Calls.{OpenPromise, GatePromise, OutputPromise, EntryPromise, LimitsPromise, SweepPromise, AppendPromise, ReportPromise, StorePromise};
+ghost use Rattle.hint.specs.Hint.{HintPromise};
 use bench::Bench;
 use bench::Edit;
 use bench::Reported;
 use circuit::Answer;
+use hint::Hinted;
 use stored::Writing;
 
 pub mod linked; // linked.rt: the same with numbers for answers, for other languages
@@ -101,6 +103,13 @@ pub fn report(bench: &Bench) -> Reported
     ensures { λ r. ⌜ ReportPromise (now (bench .entry)) r ⌝ }
 {
     report::report(*bench)
+}
+
+// How far row j of the open matrix is from the lines of the open circuit within depth d, and which of them make it.
+pub fn hint(bench: &Bench, j: usize, d: usize) -> Hinted
+    ensures { λ r. ⌜ HintPromise (now (bench .entry)) j d r ⌝ }
+{
+    hint::hint(*bench, j, d)
 }
 
 // The stored bytes first in the room, and how many; the rest of the room stays.

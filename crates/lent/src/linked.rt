@@ -1,16 +1,18 @@
 // What other languages link: the outer calls on a lent bench, with numbers for answers. A bench of zeros has nothing open.
 ghost use mathlib.Core.Path.{_≡_};
 ghost use Rattle.stored.specs.Writing.{Restored};
-ghost use Rattle.distance.specs.Query.{distanceCode, answerOf};
+ghost use Rattle.distance.specs.Query.{foundOf, foundCode};
 ghost use Rattle.builder.specs.Call.{BuildsNumbered};
 ghost use Rattle.builder.specs.Late.{BuildsLateNumbered};
 ghost use Rattle.targets.specs.Target.{matrix, table};
 ghost use Rattle.bench.specs.State.{limits};
+ghost use Rattle.hint.specs.Hint.{HintCode};
 ghost use Rattle.coded.specs.Coded.{OpenCode, GateCode, OutputCode, EntryCode, LimitsCode, SweepCode, AppendCode, ReportCodePromise, StoreCode, EquationsCode};
 use bench::Bench;
 use coded::EditNumbers;
 use coded::ReadingNumbers;
 use coded::ReportNumbers;
+use distance::FoundNumbers;
 
 // Opens a circuit with a matrix for its target.
 #[no_mangle]
@@ -130,6 +132,15 @@ pub extern "C" fn allpawasi_report(bench: &Bench) -> ReportNumbers
     coded::report(*bench)
 }
 
+// How far row j of the open matrix is from the lines of the open circuit within depth d, and which of them make it: answered as
+// `allpawasi_distance` is.
+#[no_mangle]
+pub extern "C" fn allpawasi_hint(bench: &Bench, j: usize, d: usize) -> FoundNumbers
+    ensures { λ r. ⌜ HintCode (now (bench .entry)) j d r ⌝ }
+{
+    hint::hint_no(*bench, j, d)
+}
+
 // The stored bytes first in the room, and how many; or 65,536 times the refusal's number, and the room as it was.
 #[no_mangle]
 pub extern "C" fn allpawasi_store(bench: &Bench, room: &mut [u8]) -> usize
@@ -168,7 +179,8 @@ pub extern "C" fn allpawasi_build_late(
     builder::build_late_no(n, arrivals, rows, limits, room)
 }
 
-// The fewest XOR gates that make a target over a base; 99 where no program does; 100 and the refusal's number.
+// The fewest XOR gates that make a target over a base, and the lines of the base that they count from; 99 where no program does; 100 and
+// the refusal's number.
 #[no_mangle]
 pub extern "C" fn allpawasi_distance(
     n: usize,
@@ -176,8 +188,8 @@ pub extern "C" fn allpawasi_distance(
     depths: &[u8],
     target: usize,
     d: usize,
-) -> u64
-    ensures { λ r. ⌜ r ≡ distanceCode (answerOf n (now (masks .entry)) (now (depths .entry)) target d) ⌝ }
+) -> FoundNumbers
+    ensures { λ r. ⌜ r ≡ foundCode (foundOf n (now (masks .entry)) (now (depths .entry)) target d) ⌝ }
 {
     distance::distance_no(n, masks, depths, target, d)
 }

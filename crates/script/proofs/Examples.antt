@@ -4,7 +4,7 @@ use mathlib.Core.List.{List, [], _∷_, map}
 use Prim.Native.Nat.{ℕ}
 use Rattle.text.specs.Places.{leading, headWord, tailWords, sameList}
 use Rattle.text.specs.Numbers.{numFrom, allHex, hexBytes}
-use Rattle.script.specs.Order.{Order, silent, unreadable, askOpenTable, askGate, askLimits, askSweep, askAppend, askStore, askBuild, askLate, askDistance, askEquations}
+use Rattle.script.specs.Order.{Order, silent, unreadable, askOpenTable, askGate, askLimits, askSweep, askAppend, askStore, askHint, askBuild, askLate, askDistance, askEquations}
 use Rattle.script.specs.Reading.{number, limit, isPairs, hex, kind, noMore, byWord, orderIn}
 
 -- lines, and what each asks
@@ -36,6 +36,10 @@ examples =
     (115 ∷ 116 ∷ 111 ∷ 114 ∷ 101 ∷ 32 ∷ 49 ∷ 56 ∷ 52 ∷ 52 ∷ 54 ∷ 55 ∷ 52 ∷ 52 ∷ 48 ∷ 55 ∷ 51 ∷ 55 ∷ 48 ∷ 57 ∷ 53 ∷ 53 ∷ 49 ∷ 54 ∷ 49 ∷ 53 ∷ [], askStore 18446744073709551615) ∷
     -- store 18446744073709551616
     (115 ∷ 116 ∷ 111 ∷ 114 ∷ 101 ∷ 32 ∷ 49 ∷ 56 ∷ 52 ∷ 52 ∷ 54 ∷ 55 ∷ 52 ∷ 52 ∷ 48 ∷ 55 ∷ 51 ∷ 55 ∷ 48 ∷ 57 ∷ 53 ∷ 53 ∷ 49 ∷ 54 ∷ 49 ∷ 54 ∷ [], unreadable) ∷
+    -- hint 7 4
+    (104 ∷ 105 ∷ 110 ∷ 116 ∷ 32 ∷ 55 ∷ 32 ∷ 52 ∷ [], askHint 7 4) ∷
+    -- hint 7
+    (104 ∷ 105 ∷ 110 ∷ 116 ∷ 32 ∷ 55 ∷ [], unreadable) ∷
     -- build 3 03aAFf 2 64
     (98 ∷ 117 ∷ 105 ∷ 108 ∷ 100 ∷ 32 ∷ 51 ∷ 32 ∷ 48 ∷ 51 ∷ 97 ∷ 65 ∷ 70 ∷ 102 ∷ 32 ∷ 50 ∷ 32 ∷ 54 ∷ 52 ∷ [], askBuild 3 (3 ∷ 170 ∷ 255 ∷ []) 2 64) ∷
     -- build 3 030 2 64

@@ -7,8 +7,8 @@ use lib.ListN.{length, drop, length-drop, length-take}
 use Rattle.text.proofs.Numbers.{bytes-length}
 use Rattle.script.specs.declared.Part.{Part}
 use Rattle.script.specs.declared.Call.{Call}
-use Rattle.script.specs.declared.Call.the-variants.{Silent, Unreadable, New, OpenMatrix, OpenTable, Report, Gate, Output, Entry, Limits, Sweep, Append, Store, Held, Show, Build, Late, Distance, Equations}
-use Rattle.script.specs.Order.{Order, silent, unreadable, askNew, askOpenMatrix, askOpenTable, askReport, askGate, askOutput, askEntry, askLimits, askSweep, askAppend, askStore, askHeld, askShow, askBuild, askLate, askDistance, askEquations, digitsOf, bytesOf, orderOf}
+use Rattle.script.specs.declared.Call.the-variants.{Silent, Unreadable, New, OpenMatrix, OpenTable, Report, Gate, Output, Entry, Limits, Sweep, Append, Store, Held, Show, Hint, Build, Late, Distance, Equations}
+use Rattle.script.specs.Order.{Order, silent, unreadable, askNew, askOpenMatrix, askOpenTable, askReport, askGate, askOutput, askEntry, askLimits, askSweep, askAppend, askStore, askHeld, askShow, askHint, askBuild, askLate, askDistance, askEquations, digitsOf, bytesOf, orderOf}
 use Rattle.script.specs.Placed.{HexPart, Placed, afterWords, Follows, Means}
 
 -- the part that says some bytes just before the rest of the line after k words
@@ -44,6 +44,7 @@ callFor line (askAppend kind a b) = Append (record { kind = kind; a = a; b = b }
 callFor line (askStore room) = Store room
 callFor line askHeld = Held
 callFor line askShow = Show
+callFor line (askHint row d) = Hint (record { row = row; d = d })
 callFor line (askBuild n rows d room) = Build (record { n = n; rows = partFor line 3 rows; d = d; room = room })
 callFor line (askLate n arrivals rows limits room) = Late (record { n = n; arrivals = partFor line 3 arrivals; rows = partFor line 4 rows; limits = partFor line 5 limits; room = room })
 callFor line (askDistance n masks depths t d) = Distance (record { n = n; masks = partFor line 3 masks; depths = partFor line 4 depths; target = t; d = d })
@@ -69,6 +70,7 @@ call-is line (Append e) p f = refl
 call-is line (Store room) p f = refl
 call-is line Held p f = refl
 call-is line Show p f = refl
+call-is line (Hint h) p f = refl
 call-is line (Build b) p f = let rows = part-is 3 p f in λ i. Build (record { n = b .n; rows = rows i; d = b .d; room = b .room })
 call-is line (Late b) p f =
     let arrivals = part-is 3 (p .two .first) (f .0) in let rows = part-is 4 (p .two .second) (f .1 .0) in let limits = part-is 5 (p .third) (f .1 .1) in

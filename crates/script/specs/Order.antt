@@ -5,7 +5,7 @@ use lib.ListN.{take, drop}
 use Rattle.text.specs.Numbers.{hexBytes}
 use Rattle.script.specs.declared.Part.{Part}
 use Rattle.script.specs.declared.Call.{Call}
-use Rattle.script.specs.declared.Call.the-variants.{Silent, Unreadable, New, OpenMatrix, OpenTable, Report, Gate, Output, Entry, Limits, Sweep, Append, Store, Held, Show, Build, Late, Distance, Equations}
+use Rattle.script.specs.declared.Call.the-variants.{Silent, Unreadable, New, OpenMatrix, OpenTable, Report, Gate, Output, Entry, Limits, Sweep, Append, Store, Held, Show, Hint, Build, Late, Distance, Equations}
 
 -- what a line asks; the arguments are those of the call, in the order in which they are typed
 pub data Order : Type 0 where
@@ -24,6 +24,7 @@ pub data Order : Type 0 where
   askStore : (room : ℕ) → Order
   askHeld : Order
   askShow : Order
+  askHint : (row d : ℕ) → Order
   askBuild : (n : ℕ) (rows : List ℕ) (d room : ℕ) → Order
   askLate : (n : ℕ) (arrivals rows limits : List ℕ) (room : ℕ) → Order
   askDistance : (n : ℕ) (masks depths : List ℕ) (target d : ℕ) → Order
@@ -54,6 +55,7 @@ orderOf line (Append e) = askAppend (e .kind) (e .a) (e .b)
 orderOf line (Store room) = askStore room
 orderOf line Held = askHeld
 orderOf line Show = askShow
+orderOf line (Hint h) = askHint (h .row) (h .d)
 orderOf line (Build b) = askBuild (b .n) (bytesOf line (b .rows)) (b .d) (b .room)
 orderOf line (Late b) = askLate (b .n) (bytesOf line (b .arrivals)) (bytesOf line (b .rows)) (bytesOf line (b .limits)) (b .room)
 orderOf line (Distance d) = askDistance (d .n) (bytesOf line (d .masks)) (bytesOf line (d .depths)) (d .target) (d .d)

@@ -8,7 +8,7 @@ use Rattle.text.specs.Places.{tailWords}
 use Rattle.text.specs.Numbers.{allHex}
 use Rattle.script.specs.declared.Part.{Part}
 use Rattle.script.specs.declared.Call.{Call}
-use Rattle.script.specs.declared.Call.the-variants.{Silent, Unreadable, New, OpenMatrix, OpenTable, Report, Gate, Output, Entry, Limits, Sweep, Append, Store, Held, Show, Build, Late, Distance, Equations}
+use Rattle.script.specs.declared.Call.the-variants.{Silent, Unreadable, New, OpenMatrix, OpenTable, Report, Gate, Output, Entry, Limits, Sweep, Append, Store, Held, Show, Hint, Build, Late, Distance, Equations}
 use Rattle.script.specs.Order.{Order, digitsOf, orderOf}
 
 -- a part of pairs of hexadecimal digits, within a line that is not too long
@@ -48,6 +48,7 @@ Placed line (Append e) = Unit
 Placed line (Store room) = Unit
 Placed line Held = Unit
 Placed line Show = Unit
+Placed line (Hint h) = Unit
 Placed line (Build b) = HexPart line (b .rows)
 Placed line (Late b) = HexThree line (b .arrivals) (b .rows) (b .limits)
 Placed line (Distance d) = HexParts line (d .masks) (d .depths)
@@ -75,6 +76,7 @@ Follows line (Append e) = Unit
 Follows line (Store room) = Unit
 Follows line Held = Unit
 Follows line Show = Unit
+Follows line (Hint h) = Unit
 Follows line (Build b) = drop (b .rows .to) line ≡ afterWords 3 line
 Follows line (Late b) = (drop (b .arrivals .to) line ≡ afterWords 3 line) × ((drop (b .rows .to) line ≡ afterWords 4 line) × (drop (b .limits .to) line ≡ afterWords 5 line))
 Follows line (Distance d) = (drop (d .masks .to) line ≡ afterWords 3 line) × (drop (d .depths .to) line ≡ afterWords 4 line)

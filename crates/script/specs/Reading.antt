@@ -8,7 +8,7 @@ use Rattle.text.specs.declared.Number.{Number}
 use Rattle.text.specs.declared.Number.the-variants.{Value, Not}
 use Rattle.text.specs.Places.{headWord, tailWords, sameList}
 use Rattle.text.specs.Numbers.{numberIn, allHex, hexBytes}
-use Rattle.script.specs.Order.{Order, silent, unreadable, askNew, askOpenMatrix, askOpenTable, askReport, askGate, askOutput, askEntry, askLimits, askSweep, askAppend, askStore, askHeld, askShow, askBuild, askLate, askDistance, askEquations}
+use Rattle.script.specs.Order.{Order, silent, unreadable, askNew, askOpenMatrix, askOpenTable, askReport, askGate, askOutput, askEntry, askLimits, askSweep, askAppend, askStore, askHeld, askShow, askHint, askBuild, askLate, askDistance, askEquations}
 
 -- what the rest of a line asks
 abbrev pub Rest : Type 0
@@ -85,6 +85,10 @@ limitsRest = limit (λ g. limit (λ d. limit (λ a. noMore (askLimits g d a))))
 abbrev pub appendRest : Rest
 appendRest = number (λ t. number (λ a. number (λ b. noMore (askAppend t a b))))
 
+-- `hint J D`
+abbrev pub hintRest : Rest
+hintRest = number (λ row. number (λ d. noMore (askHint row d)))
+
 -- `store ROOM`
 abbrev pub storeRest : Rest
 storeRest = number (λ room. noMore (askStore room))
@@ -124,6 +128,10 @@ showWord = 115 ∷ 104 ∷ 111 ∷ 119 ∷ []
 -- the word `sweep`
 abbrev pub sweepWord : List ℕ
 sweepWord = 115 ∷ 119 ∷ 101 ∷ 101 ∷ 112 ∷ []
+
+-- the word `hint`
+abbrev pub hintWord : List ℕ
+hintWord = 104 ∷ 105 ∷ 110 ∷ 116 ∷ []
 
 -- the word `gate`
 abbrev pub gateWord : List ℕ
@@ -188,9 +196,11 @@ bytesCalls =
 abbrev pub editCalls : Table
 editCalls = (gateWord, gateRest) ∷ (outputWord, outputRest) ∷ (entryWord, entryRest) ∷ (limitsWord, limitsRest) ∷ (appendWord, appendRest) ∷ bytesCalls
 
--- those, and calls of one word: the whole language
+-- those, calls of one word, and a hint: the whole language
 abbrev pub calls : Table
-calls = (newWord, noMore askNew) ∷ (reportWord, noMore askReport) ∷ (heldWord, noMore askHeld) ∷ (showWord, noMore askShow) ∷ (sweepWord, noMore askSweep) ∷ editCalls
+calls =
+    (newWord, noMore askNew) ∷ (reportWord, noMore askReport) ∷ (heldWord, noMore askHeld) ∷ (showWord, noMore askShow) ∷ (sweepWord, noMore askSweep)
+    ∷ (hintWord, hintRest) ∷ editCalls
 
 -- what a line asks: nothing where it is blank or its first byte is `#`; too long a line is unreadable whatever it says
 unfoldable pub orderIn : List ℕ → Order

@@ -6,6 +6,7 @@ use crate::DistanceCall;
 use crate::EntryEdit;
 use crate::EquationsCall;
 use crate::GateEdit;
+use crate::HintCall;
 use crate::LateCall;
 use crate::LimitsEdit;
 use crate::Opening;
@@ -19,7 +20,7 @@ use crate::words::number_at;
 ghost use mathlib.Core.Path.{_≡_};
 ghost use mathlib.Core.Bool.{Bool};
 ghost use Rattle.script.specs.Order.{orderOf};
-ghost use Rattle.script.specs.Reading.{openRest, gateRest, outputRest, entryRest, limitsRest, appendRest, storeRest, buildRest, lateRest, distanceRest, equationsRest, noMore};
+ghost use Rattle.script.specs.Reading.{openRest, gateRest, outputRest, entryRest, limitsRest, appendRest, hintRest, storeRest, buildRest, lateRest, distanceRest, equationsRest, noMore};
 ghost use Rattle.script.specs.Placed.{Placed, Follows, Means};
 ghost use Rattle.script.specs.Cursors.{onward, Within, Second};
 
@@ -136,6 +137,20 @@ pub(crate) fn read_append(line: &[u8], here: Cursor) -> Call
         b: second.value,
     };
     finish(line, second.rest, Call::Append(edit))
+}
+
+// `hint J D`.
+pub(crate) fn read_hint(line: &[u8], here: Cursor) -> Call
+    requires { ⌜ Second (now line) here ⌝ }
+    ensures { λ r. ⌜ Means (now (line .entry)) r (onward (now (line .entry)) here hintRest) ⌝ }
+{
+    let row = number_at(line, here);
+    let d = number_at(line, row.rest);
+    let call = HintCall {
+        row: row.value,
+        d: d.value,
+    };
+    finish(line, d.rest, Call::Hint(call))
 }
 
 // `store ROOM`.

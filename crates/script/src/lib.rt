@@ -82,6 +82,12 @@ pub struct DistanceCall {
     pub d: usize,
 }
 
+// `hint J D`: the row of the open matrix, and the depth.
+pub struct HintCall {
+    pub row: usize,
+    pub d: usize,
+}
+
 // `equations HEX ROOM`.
 pub struct EquationsCall {
     pub file: Part,
@@ -105,6 +111,7 @@ pub enum Call {
     Store(usize),
     Held,
     Show,
+    Hint(HintCall),
     Build(BuildCall),
     Late(LateCall),
     Distance(DistanceCall),
@@ -182,6 +189,9 @@ fn any_call(word: &[u8], line: &[u8], rest: Cursor) -> Call
     }
     if text::same(word, b"sweep") {
         return calls::finish(line, rest, Call::Sweep);
+    }
+    if text::same(word, b"hint") {
+        return calls::read_hint(line, rest);
     }
     edit_call(word, line, rest)
 }

@@ -20,8 +20,8 @@ use Rattle.text.specs.declared.Number.the-variants.{Value, Not}
 use Rattle.text.specs.Places.{headWord, tailWords, sameList}
 use Rattle.text.specs.Numbers.{numberIn, hexBytes}
 use Rattle.text.proofs.Putting.{counted}
-use Rattle.script.specs.Order.{Order, silent, unreadable, askNew, askReport, askGate, askOutput, askEntry, askLimits, askSweep, askAppend, askStore, askHeld, askShow, askBuild, askLate, askDistance, askEquations}
-use Rattle.script.specs.Reading.{Rest, onValue, number, limit, isHex, hex, matrixWord, tableWord, kind, noMore, Table, byWord, askOpen, openRest, gateRest, outputRest, entryRest, appendRest, buildRest, lateRest, distanceRest, equationsRest, bytesCalls, editCalls, calls, orderIn}
+use Rattle.script.specs.Order.{Order, silent, unreadable, askNew, askReport, askGate, askOutput, askEntry, askLimits, askSweep, askAppend, askStore, askHeld, askShow, askHint, askBuild, askLate, askDistance, askEquations}
+use Rattle.script.specs.Reading.{Rest, onValue, number, limit, isHex, hex, matrixWord, tableWord, kind, noMore, Table, byWord, askOpen, openRest, gateRest, outputRest, entryRest, appendRest, hintRest, buildRest, lateRest, distanceRest, equationsRest, bytesCalls, editCalls, calls, orderIn}
 use Rattle.talk.specs.declared.Told.{Told}
 use Rattle.talk.specs.Talk.{Deed, clearing, calling, deedOf, presentBy, presentAfterLine, presentAfterLines, textOf, written, Answers}
 
@@ -140,6 +140,10 @@ good-entry = good-number _ (λ i. good-number _ (λ value. good-end (askEntry i 
 good-append : Good appendRest
 good-append = good-number _ (λ t. good-number _ (λ a. good-number _ (λ b. good-end (askAppend t a b) (tt, tt))))
 
+-- `hint`
+good-hint : Good hintRest
+good-hint = good-number _ (λ row. good-number _ (λ d. good-end (askHint row d) tt))
+
 -- all calls
 good-bytes : GoodRows bytesCalls
 good-bytes = (good-open, (good-number _ (λ room. good-end (askStore room) (tt, tt)), (good-build, (good-late, (good-distance, (good-equations, tt))))))
@@ -148,7 +152,7 @@ good-edits : GoodRows editCalls
 good-edits = (good-gate, (good-output, (good-entry, (three askLimits (λ g d a h. (h, tt)), (good-append, good-bytes)))))
 
 good-calls : GoodRows calls
-good-calls = (good-end askNew tt, (good-end askReport (tt, tt), (good-end askHeld tt, (good-end askShow tt, (good-end askSweep (tt, tt), good-edits)))))
+good-calls = (good-end askNew tt, (good-end askReport (tt, tt), (good-end askHeld tt, (good-end askShow tt, (good-end askSweep (tt, tt), (good-hint, good-edits))))))
 
 -- every line
 pub line-limited : (line : List ℕ) → Limited (orderIn line)

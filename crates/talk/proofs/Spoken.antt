@@ -30,13 +30,17 @@ module _ {before after : List ℕ} {r : ℕ} {s : List ℕ} (h : Said before aft
       ap (drop r) (p .room) ∙ drop-at s (drop (0 + length s) before) r (omega (arith, p .next)) ∙ ap (λ (k : ℕ). drop k before) (sym (p .next))
 
 -- more than all of a list is all of it
-pub take-least : (k most : ℕ) (l : List ℕ) → length l ≡ most → take (min k most) l ≡ take k l
+take-least : (k most : ℕ) (l : List ℕ) → length l ≡ most → take (min k most) l ≡ take k l
 take-least k most l e = by (decLt k most) where
   by : Dec (k < most) → take (min k most) l ≡ take k l
   by (yes h) = let m : min k most ≡ k = omega arith in ap (λ (x : ℕ). take x l) m
   by (no h) =
       let m : min k most ≡ most = omega (arith, h) in
       ap (λ (x : ℕ). take x l) m ∙ take-all most l (omega arith) ∙ sym (take-all k l (omega (arith, h)))
+
+-- and so `count` entries, or as many as there are, are the first `count`
+pub take-at-most : {k : ℕ} (count most : ℕ) (l : List ℕ) → length l ≡ most → k ≡ min count most → take k l ≡ take count l
+take-at-most count most l e m = ap (λ (x : ℕ). take x l) m ∙ take-least count most l e
 
 -- nothing is said
 pub silent-said : (room : List ℕ) → Said room room 0 []

@@ -5,7 +5,7 @@ use Prim.Native.Nat.{ℕ}
 use lib.ListN.{take, drop, replicate}
 use Rattle.io.specs.Counts.{Counts}
 use Rattle.stored.specs.Stored.{stored}
-use Rattle.distance.specs.Query.{answerOf}
+use Rattle.distance.specs.Query.{foundOf}
 use Rattle.builder.specs.Call.{built, buildAnswer}
 use Rattle.builder.specs.Late.{lateBuilt, lateAnswer}
 use Rattle.drawing.specs.Drawing.{drawnAnswer, drawnBytes}
@@ -16,20 +16,21 @@ use Rattle.bench.specs.Held.{benchOf, Stands}
 use Rattle.bench.specs.Calls.{openAnswer, gateEdit, outputEditAnswer, entryEditAnswer, limitsAnswer, noRework, sweepEdit, appendEdit, reported, storeAnswer, storedOf}
 use Rattle.bench.specs.Run.{Call, presentFrom}
 use Rattle.bench.specs.Run.Call.{opening, replacing, pointing, changing, limiting, sweeping, appending, reporting, storing}
+use Rattle.hint.specs.Hint.{hintOf}
 use Rattle.listing.specs.Printed.{unreadableText}
-use Rattle.script.specs.Order.{Order, silent, unreadable, askNew, askOpenMatrix, askOpenTable, askReport, askGate, askOutput, askEntry, askLimits, askSweep, askAppend, askStore, askHeld, askShow, askBuild, askLate, askDistance, askEquations}
+use Rattle.script.specs.Order.{Order, silent, unreadable, askNew, askOpenMatrix, askOpenTable, askReport, askGate, askOutput, askEntry, askLimits, askSweep, askAppend, askStore, askHeld, askShow, askHint, askBuild, askLate, askDistance, askEquations}
 use Rattle.script.specs.Reading.{orderIn}
 use Rattle.talk.specs.declared.Told.{Told}
 use Rattle.talk.specs.Words.{newText, storedName, builtName}
-use Rattle.talk.specs.Texts.{openText, editText, reportedText, writtenText, drawnText, distanceText, heldText, showText}
+use Rattle.talk.specs.Texts.{openText, editText, reportedText, writtenText, drawnText, foundText, hintedText, heldText, showText}
 
 -- what a line does to the bench: it clears it, or makes calls on it
 pub data Deed : Type 0 where
   clearing : Deed
   calling : List Call → Deed
 
--- what each line does: `new` clears the bench; `held` and `show` only look at it, and make none of its calls, as do lines that are not
--- about it; `store` lends a room of so many bytes
+-- what each line does: `new` clears the bench; `held`, `show` and `hint` only look at it, and make none of its calls, as do lines that are
+-- not about it; `store` lends a room of so many bytes
 abbrev pub deedOf : Order → Deed
 deedOf silent = calling []
 deedOf unreadable = calling []
@@ -46,6 +47,7 @@ deedOf (askAppend kind a b) = calling (appending kind a b ∷ [])
 deedOf (askStore room) = calling (storing (replicate room 0) ∷ [])
 deedOf askHeld = calling []
 deedOf askShow = calling []
+deedOf (askHint row d) = calling []
 deedOf (askBuild n rows d room) = calling []
 deedOf (askLate n arrivals rows limits room) = calling []
 deedOf (askDistance n masks depths t d) = calling []
@@ -77,10 +79,11 @@ textOf p (askAppend kind a b) = editText (appendEdit p kind a b)
 textOf p (askStore room) = writtenText storedName (storeAnswer p room) (storedOf p)
 textOf p askHeld = heldText p
 textOf p askShow = showText p
+textOf p (askHint row d) = hintedText (hintOf p row d)
 textOf p (askBuild n rows d room) = writtenText builtName (buildAnswer n rows d room) (stored (built n rows d))
 textOf p (askLate n arrivals rows limits room) =
     writtenText builtName (lateAnswer n arrivals rows limits room) (stored (lateBuilt n arrivals rows limits))
-textOf p (askDistance n masks depths t d) = distanceText (answerOf n masks depths t d)
+textOf p (askDistance n masks depths t d) = foundText (foundOf n masks depths t d)
 textOf p (askEquations file room) = drawnText (drawnAnswer file room) (drawnBytes file)
 
 -- what is present after some lines, one after the other

@@ -11,7 +11,11 @@ use Rattle.stored.specs.declared.Writing.{Writing}
 use Rattle.stored.specs.declared.Writing.the-variants.{Written, NotWritten}
 use Rattle.distance.specs.declared.Answer.{Answer as Distance}
 use Rattle.distance.specs.declared.Answer.the-variants.{Gates, Never, Refused as NotAsked}
+use Rattle.distance.specs.declared.Found.{Found}
 use Rattle.distance.specs.Query.{queryRefusalNo}
+use Rattle.hint.specs.declared.Answer.{Answer as HintAnswer}
+use Rattle.hint.specs.declared.Answer.the-variants.{Gates as HintGates, Never as HintNever, Refused as HintRefused}
+use Rattle.hint.specs.declared.Hinted.{Hinted}
 use Rattle.drawing.specs.declared.Drawn.{Drawn}
 use Rattle.drawing.specs.declared.Drawn.the-variants.{Stored, BadText, BadName, NoOutputs, NotStored}
 use Rattle.targets.specs.Wanted.{packed}
@@ -58,9 +62,13 @@ acceptedText (Refused w) s = refusedText w
 abbrev pub openText : Answer → List ℕ
 openText a = acceptedText a openedText
 
+-- `NAME X LINE LINE ..`: a number, and lines after it
+unfoldable pub listedText : List ℕ → ℕ → List ℕ → List ℕ
+listedText name x lines = labelled name x ++ numbersText lines ++ newLine
+
 -- `reworked COUNT LINE LINE ..`
-unfoldable pub reworkedText : ℕ → List ℕ → List ℕ
-reworkedText count lines = labelled reworkedName count ++ numbersText (take count lines) ++ newLine
+abbrev pub reworkedText : ℕ → List ℕ → List ℕ
+reworkedText count lines = listedText reworkedName count (take count lines)
 
 -- what an edit answers, or `refused N`
 abbrev pub editText : Edit → List ℕ
@@ -83,11 +91,33 @@ drawnText (BadName place) bytes = placedText 16 place ++ newLine
 drawnText NoOutputs bytes = labelled refusedName 17 ++ newLine
 drawnText (NotStored w) bytes = refusedText w
 
--- `distance X`, `distance none` or `refused N`
-abbrev pub distanceText : Distance → List ℕ
-distanceText (Gates x) = labelled distanceName x ++ newLine
-distanceText Never = distanceName ++ noneName ++ newLine
-distanceText (NotAsked w) = labelled refusedName (queryRefusalNo w) ++ newLine
+-- `distance X LINE LINE ..`: so many gates, over these lines
+abbrev pub gatesText : ℕ → List ℕ → List ℕ
+gatesText x lines = listedText distanceName x lines
+
+-- `distance none`
+abbrev pub noGatesText : List ℕ
+noGatesText = distanceName ++ noneName ++ newLine
+
+-- a distance with its lines, `distance none` or `refused N`
+abbrev pub distanceText : Distance → List ℕ → List ℕ
+distanceText (Gates x) lines = gatesText x lines
+distanceText Never lines = noGatesText
+distanceText (NotAsked w) lines = labelled refusedName (queryRefusalNo w) ++ newLine
+
+-- what a distance query answers
+abbrev pub foundText : Found → List ℕ
+foundText f = distanceText (f .answer) (take (f .count) (f .lines))
+
+-- the same for a hint, whose lines are those of the open circuit
+abbrev pub hintText : HintAnswer → List ℕ → List ℕ
+hintText (HintGates x) lines = gatesText x lines
+hintText HintNever lines = noGatesText
+hintText (HintRefused w) lines = refusedText w
+
+-- what a hint answers
+abbrev pub hintedText : Hinted → List ℕ
+hintedText h = hintText (h .answer) (take (h .count) (h .lines))
 
 -- ---- held
 

@@ -5,13 +5,13 @@ ghost use lib.ListN.{length, take, drop};
 ghost use Rattle.stored.specs.Stored.{stored};
 ghost use Rattle.builder.specs.Call.{built, buildAnswer};
 ghost use Rattle.builder.specs.Late.{lateBuilt, lateAnswer, BuildsLate};
-ghost use Rattle.distance.specs.Query.{answerOf};
+ghost use Rattle.distance.specs.Query.{foundOf};
 ghost use Rattle.targets.specs.Target.{targetOf};
 ghost use Rattle.text.specs.Putting.{Put};
 ghost use Rattle.bench.specs.Calls.{OpenPromise};
 ghost use Rattle.bench.specs.State.{limits};
 ghost use Rattle.script.specs.Reading.{askOpen};
-ghost use Rattle.script.specs.Order.{bytesOf, unreadable, askNew, askReport, askGate, askOutput, askEntry, askLimits, askSweep, askAppend, askStore, askHeld, askShow, askBuild, askLate, askDistance, askEquations};
+ghost use Rattle.script.specs.Order.{bytesOf, unreadable, askNew, askReport, askGate, askOutput, askEntry, askLimits, askSweep, askAppend, askStore, askHeld, askShow, askHint, askBuild, askLate, askDistance, askEquations};
 ghost use Rattle.script.specs.Placed.{HexPart, HexParts, HexThree};
 ghost use Rattle.talk.specs.Texts.{editText, openText};
 ghost use Rattle.talk.specs.Talk.{Answers};
@@ -22,9 +22,10 @@ use crate::STORED;
 use crate::Told;
 use crate::held::say_held;
 use crate::lines::say;
-use crate::lines::say_distance;
 use crate::lines::say_drawn;
 use crate::lines::say_edit;
+use crate::lines::say_found;
+use crate::lines::say_hint;
 use crate::lines::say_opened;
 use crate::lines::say_reported;
 use crate::lines::say_written;
@@ -45,7 +46,10 @@ use bench::storing::store;
 use bench::sweeping::sweep;
 use builder::build;
 use builder::build_late;
+use distance::Found;
+use distance::distance;
 use drawing::Drawn;
+use hint::hint;
 use report::report;
 use script::AppendEdit;
 use script::BuildCall;
@@ -53,6 +57,7 @@ use script::DistanceCall;
 use script::EntryEdit;
 use script::EquationsCall;
 use script::GateEdit;
+use script::HintCall;
 use script::LateCall;
 use script::LimitsEdit;
 use script::Opening;
@@ -333,14 +338,23 @@ pub(crate) fn tell_show(b: Bench, out: &mut [u8; OUT]) -> Told
     Told { bench: b, len }
 }
 
+// `hint J D`.
+pub(crate) fn tell_hint(b: Bench, q: HintCall, out: &mut [u8; OUT]) -> Told
+    ensures { λ r. ⌜ Answers b (askHint (q .row) (q .d)) (now (out .entry)) (now (out .exit)) r ⌝ }
+{
+    let hinted = hint(b, q.row, q.d);
+    let len = say_hint(out, hinted);
+    Told { bench: b, len }
+}
+
 // The distance over masks and depths that stand in two parts of a room.
-fn distance_parts(n: usize, room: &[u8], ends: Ends, target: usize, d: usize) -> distance::Answer
+fn distance_parts(n: usize, room: &[u8], ends: Ends, target: usize, d: usize) -> Found
     requires { ⌜ (ends .mid ≤ ends .end) × (ends .end ≤ length (now room)) ⌝ }
-    ensures { λ r. ⌜ r ≡ answerOf n (take (ends .mid) (now (room .entry))) (take (ends .end - ends .mid) (drop (ends .mid) (now (room .entry)))) target d ⌝ }
+    ensures { λ r. ⌜ r ≡ foundOf n (take (ends .mid) (now (room .entry))) (take (ends .end - ends .mid) (drop (ends .mid) (now (room .entry)))) target d ⌝ }
 {
     let mid = ends.mid;
     let end = ends.end;
-    distance::distance(n, &room[..mid], &room[mid..end], target, d)
+    distance(n, &room[..mid], &room[mid..end], target, d)
 }
 
 // `distance N MASKSHEX DEPTHSHEX T D`.
@@ -352,8 +366,8 @@ pub(crate) fn tell_distance(b: Bench, line: &[u8], q: DistanceCall, out: &mut [u
     let depths = q.depths;
     let mut room = [0u8; HEX];
     let ends = lay_two(line, masks, depths, &mut room);
-    let answer = distance_parts(q.n, &room, ends, q.target, q.d);
-    let len = say_distance(out, answer);
+    let found = distance_parts(q.n, &room, ends, q.target, q.d);
+    let len = say_found(out, found);
     Told { bench: b, len }
 }
 

@@ -48,6 +48,7 @@ pub fn answer_line(b: Bench, line: &[u8], out: &mut [u8; OUT]) -> Told
         Call::Store(size) => calls::tell_store(b, size, out),
         Call::Held => calls::tell_held(b, out),
         Call::Show => calls::tell_show(b, out),
+        Call::Hint(q) => calls::tell_hint(b, q, out),
         Call::Build(q) => calls::tell_build(b, line, q, out),
         Call::Late(q) => calls::tell_late(b, line, q, out),
         Call::Distance(q) => calls::tell_distance(b, line, q, out),

@@ -2,10 +2,11 @@
 ghost use Prim.Native.Nat.{_+_, _≤_, min};
 ghost use lib.ListN.{length, take};
 ghost use mathlib.Core.List.{_++_};
+ghost use Rattle.circuit.specs.Sizes.{mostLines};
 ghost use Rattle.text.specs.Numbers.{labelled};
 ghost use Rattle.text.specs.Putting.{Put};
 ghost use Rattle.listing.specs.Printed.{newLine, refusedText, placedText};
-ghost use Rattle.talk.specs.Texts.{verdictText, tallyText, reportText, reportedText, openText, reworkedText, editText, hexLine, distanceText};
+ghost use Rattle.talk.specs.Texts.{verdictText, tallyText, reportText, reportedText, openText, listedText, reworkedText, editText, hexLine, gatesText, foundText, hintedText};
 ghost use Rattle.talk.specs.Saying.{Said, storedMost, writtenIn, drawnIn};
 use crate::OUT;
 use crate::STORED;
@@ -14,14 +15,18 @@ use bench::Report;
 use bench::Reported;
 use bench::Verdict;
 use circuit::Answer;
+use circuit::INPUTS;
 use circuit::LINES;
 use circuit::Refusal;
 use circuit::Tally;
 use circuit::wide;
+use distance::Found;
+use distance::Lines;
 use drawing::BAD_NAME;
 use drawing::BAD_TEXT;
 use drawing::Drawn;
 use drawing::NO_OUTPUTS;
+use hint::Hinted;
 use stored::Writing;
 use text::at_most;
 use text::put_labelled;
@@ -105,14 +110,22 @@ pub(crate) fn say_opened(out: &mut [u8; OUT], answer: Answer) -> usize
     }
 }
 
+// A name and a number, and lines after it.
+fn say_listed(out: &mut [u8; OUT], name: &[u8], x: usize, lines: &[u16]) -> usize
+    requires { ⌜ (length (now name) ≤ 64) × (length (now lines) ≤ mostLines) ⌝ }
+    ensures { λ r. ⌜ Said (now (out .entry)) (now (out .exit)) r (listedText (now (name .entry)) x (now (lines .entry))) ⌝ }
+{
+    let named = put_labelled(out, 0, name, x);
+    let listed = text::put_numbers(out, named, lines);
+    text::put(out, listed, b"\n")
+}
+
 // `reworked COUNT LINE LINE ..`. No edit reworks more lines than there may be; the test keeps to the array on a bench that no calls yield.
 fn say_reworked(out: &mut [u8; OUT], count: usize, lines: [u16; LINES]) -> usize
     ensures { λ r. ⌜ Said (now (out .entry)) (now (out .exit)) r (reworkedText count lines) ⌝ }
 {
     let shown = at_most(count, LINES);
-    let counted = put_labelled(out, 0, b"reworked ", count);
-    let listed = text::put_numbers(out, counted, &lines[..shown]);
-    text::put(out, listed, b"\n")
+    say_listed(out, b"reworked ", count, &lines[..shown])
 }
 
 // What an edit answers.
@@ -182,15 +195,38 @@ pub(crate) fn say_drawn(out: &mut [u8; OUT], drawn: Drawn, room: &[u8]) -> usize
     }
 }
 
-// What a distance query answers.
-pub(crate) fn say_distance(out: &mut [u8; OUT], answer: distance::Answer) -> usize
-    ensures { λ r. ⌜ Said (now (out .entry)) (now (out .exit)) r (distanceText answer) ⌝ }
+// `distance X LINE LINE ..`. No distance has more lines than there may be inputs; the test keeps to the array on a bench that no calls yield.
+fn say_gates(out: &mut [u8; OUT], gates: u8, count: usize, lines: Lines) -> usize
+    ensures { λ r. ⌜ Said (now (out .entry)) (now (out .exit)) r (gatesText gates (take count lines)) ⌝ }
 {
+    let shown = at_most(count, INPUTS);
+    say_listed(out, b"distance ", wide(gates), &lines[..shown])
+}
+
+// What a distance query answers.
+pub(crate) fn say_found(out: &mut [u8; OUT], found: Found) -> usize
+    ensures { λ r. ⌜ Said (now (out .entry)) (now (out .exit)) r (foundText found) ⌝ }
+{
+    let answer = found.answer;
+    let lines = found.lines;
     match answer {
-        distance::Answer::Gates(gates) => say_number(out, b"distance ", wide(gates)),
+        distance::Answer::Gates(gates) => say_gates(out, gates, found.count, lines),
         distance::Answer::Never => say(out, b"distance none\n"),
         distance::Answer::Refused(why) => {
             say_number(out, b"refused ", wide(distance::refusal_no(why)))
         }
+    }
+}
+
+// What a hint answers.
+pub(crate) fn say_hint(out: &mut [u8; OUT], hinted: Hinted) -> usize
+    ensures { λ r. ⌜ Said (now (out .entry)) (now (out .exit)) r (hintedText hinted) ⌝ }
+{
+    let answer = hinted.answer;
+    let lines = hinted.lines;
+    match answer {
+        hint::Answer::Gates(gates) => say_gates(out, gates, hinted.count, lines),
+        hint::Answer::Never => say(out, b"distance none\n"),
+        hint::Answer::Refused(why) => say_refused(out, why),
     }
 }

@@ -1,9 +1,10 @@
-//! Values, depths, verdict, readers and the sweep, worked input value by input value and gate by gate.
+//! Values, depths, verdict, readers, hints and the sweep, worked input value by input value and gate by gate.
 
 use std::collections::{BTreeMap, BTreeSet};
 
 use crate::circuit::{Circuit, Gate, NOT};
 use crate::examine::{Limits, Report, Target, Verdict};
+use crate::plain::builder::{smallest_set, Line};
 
 /// The value of every line on one input value.
 pub fn values(circuit: &Circuit, x: usize) -> Vec<bool> {
@@ -128,6 +129,17 @@ pub fn readers(circuit: &Circuit, k: usize) -> Vec<usize> {
             return set.into_iter().collect();
         }
     }
+}
+
+/// The smallest set of lines that makes a row within depth D, which is 15 at most, and of these the first. Every
+/// line stands in the base, in its own place; one that is deeper than 15 stands there as deep as 16, and fits in
+/// no set.
+pub fn hint(circuit: &Circuit, row: u8, d: u8) -> Option<Vec<usize>> {
+    let alone: Vec<Vec<bool>> = (0..circuit.n).map(|i| values(circuit, 1 << i)).collect();
+    let mask = |line: usize| alone.iter().enumerate().map(|(i, values)| (values[line] as u8) << i).sum();
+    let depths = depths(circuit);
+    let base: Vec<Line> = (0..circuit.lines()).map(|line| (mask(line), depths[line].0.min(16))).collect();
+    smallest_set(&base, row, d)
 }
 
 /// The gate of a line, where the line is no input.

@@ -4,9 +4,8 @@ use borrow.Author.Tests.{ltb-true}
 use native.Mathlib.Omega.{arith}
 use mathlib.Core.Path.{_≡_, ap, _∙_, sym}
 use mathlib.Core.Bool.{true}
-use Prim.Native.Nat.{ℕ, _<_}
+use Prim.Native.Nat.{ℕ}
 use Rattle.circuit.proofs.Shapes.{Shaped, both}
-use Rattle.bench.specs.declared.Bench.{Bench}
 use Rattle.bench.proofs.Stood.{openOn, standing-shaped}
 use Rattle.hint.specs.Parts.{isRow, hintOn}
 use Rattle.hint.proofs.OnBench.{hint-row, hint-no-row, hint-nothing}

@@ -1,9 +1,7 @@
 -- `hint::hint_no` meets its contract: the numbers of what `hint` answers. Assumes nothing.
 use borrow.Author.Needs.{needs}
-use mathlib.Core.Path.{_≡_, ap, _∙_}
-use Rattle.hint.specs.declared.Hinted.{Hinted}
+use mathlib.Core.Path.{ap, _∙_}
 use Rattle.hint.specs.Hint.{hintNumbers}
-use Rattle.distance.specs.declared.FoundNumbers.{FoundNumbers}
 use Rattle.hint.proofs.hint_no.Statement.{statement}
 use Rattle.hint.proofs.hint_no.Tie as tie
 

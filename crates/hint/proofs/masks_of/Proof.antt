@@ -1,10 +1,8 @@
 -- `hint::masks_of` meets its contract. The invariant: the array holds the masks so far. Assumes nothing.
 use borrow.Author.Needs.{needs}
 use native.Mathlib.Omega.{arith}
-use mathlib.Core.Path.{_≡_}
-use Prim.Native.Nat.{ℕ, _≤_, _-_}
+use Prim.Native.Nat.{_≤_, _-_}
 use Rattle.circuit.specs.Sizes.{mostInputs, mostGates}
-use Rattle.hint.specs.Parts.{masksOn}
 use Rattle.hint.proofs.Summing.{SummedTo, summed-start, summed-next, summed-done}
 use Rattle.hint.proofs.masks_of.Statement.{statement}
 use Rattle.hint.proofs.masks_of.Tie as tie

@@ -82,18 +82,38 @@ returns-5 c =
     (is-other (e4 .before .same4 .ensures) (e4 .if4 .left)
     (is-word (c .before .before .same5 .ensures) (c .before .if5 .taken) (c .finish5 .ensures)))))) .means
 
-edit-call-requires : tie.Need-edit-call-requires
-edit-call-requires c κs = search needs
+slice-aggregate-same-6 : tie.Need-slice-aggregate-same-6
+slice-aggregate-same-6 c = search needs
+
+same-requires-6 : tie.Need-same-requires-6
+same-requires-6 c κs = search needs
+
+read-hint-requires : tie.Need-read-hint-requires
+read-hint-requires c κs = search needs
 
 returns-6 : tie.Need-returns-6
 returns-6 c =
-    let e5 = c .before in let e4 = e5 .before .before .before in let e3 = e4 .before .before .before in let e2 = e3 .before .before .before in let e1 = e2 .before .before .before in
+    let e5 = c .before .before .before .before in let e4 = e5 .before .before .before in let e3 = e4 .before .before .before in let e2 = e3 .before .before .before in let e1 = e2 .before .before .before in
     (is-other (e1 .before .same .ensures) (e1 .if1 .left)
     (is-other (e2 .before .same2 .ensures) (e2 .if2 .left)
     (is-other (e3 .before .same3 .ensures) (e3 .if3 .left)
     (is-other (e4 .before .same4 .ensures) (e4 .if4 .left)
     (is-other (e5 .before .same5 .ensures) (e5 .if5 .left)
-    (record { means = c .edit-call .ensures })))))) .means
+    (is-word (c .before .before .same6 .ensures) (c .before .if6 .taken) (c .read-hint .ensures))))))) .means
+
+edit-call-requires : tie.Need-edit-call-requires
+edit-call-requires c κs = search needs
+
+returns-7 : tie.Need-returns-7
+returns-7 c =
+    let e6 = c .before in let e5 = e6 .before .before .before in let e4 = e5 .before .before .before in let e3 = e4 .before .before .before in let e2 = e3 .before .before .before in let e1 = e2 .before .before .before in
+    (is-other (e1 .before .same .ensures) (e1 .if1 .left)
+    (is-other (e2 .before .same2 .ensures) (e2 .if2 .left)
+    (is-other (e3 .before .same3 .ensures) (e3 .if3 .left)
+    (is-other (e4 .before .same4 .ensures) (e4 .if4 .left)
+    (is-other (e5 .before .same5 .ensures) (e5 .if5 .left)
+    (is-other (e6 .before .same6 .ensures) (e6 .if6 .left)
+    (record { means = c .edit-call .ensures }))))))) .means
 
 pub any-call-spec : {M : Type 1} → statement M
 any-call-spec =
@@ -119,5 +139,9 @@ any-call-spec =
     same-requires-5
     finish-requires-5
     returns-5
+    slice-aggregate-same-6
+    same-requires-6
+    read-hint-requires
+    returns-6
     edit-call-requires
-    returns-6)
+    returns-7)

@@ -110,26 +110,32 @@ tell-show-requires c κs = search needs
 enum-known-call-9 : tie.Need-enum-known-call-9
 enum-known-call-9 c = search needs
 
-tell-build-requires : tie.Need-tell-build-requires
-tell-build-requires c κs = placed (c .before .before .before .before) _ (c .before .before .call9 .given .1)
+tell-hint-requires : tie.Need-tell-hint-requires
+tell-hint-requires c κs = search needs
 
 enum-known-call-10 : tie.Need-enum-known-call-10
 enum-known-call-10 c = search needs
 
-tell-late-requires : tie.Need-tell-late-requires
-tell-late-requires c κs = placed (c .before .before .before .before) _ (c .before .before .call10 .given .1)
+tell-build-requires : tie.Need-tell-build-requires
+tell-build-requires c κs = placed (c .before .before .before .before) _ (c .before .before .call10 .given .1)
 
 enum-known-call-11 : tie.Need-enum-known-call-11
 enum-known-call-11 c = search needs
 
-tell-distance-requires : tie.Need-tell-distance-requires
-tell-distance-requires c κs = placed (c .before .before .before .before) _ (c .before .before .call11 .given .1)
+tell-late-requires : tie.Need-tell-late-requires
+tell-late-requires c κs = placed (c .before .before .before .before) _ (c .before .before .call11 .given .1)
 
 enum-known-call-12 : tie.Need-enum-known-call-12
 enum-known-call-12 c = search needs
 
+tell-distance-requires : tie.Need-tell-distance-requires
+tell-distance-requires c κs = placed (c .before .before .before .before) _ (c .before .before .call12 .given .1)
+
+enum-known-call-13 : tie.Need-enum-known-call-13
+enum-known-call-13 c = search needs
+
 tell-equations-requires : tie.Need-tell-equations-requires
-tell-equations-requires c κs = placed (c .before .before .before .before) _ (c .before .before .call12 .given .1)
+tell-equations-requires c κs = placed (c .before .before .before .before) _ (c .before .before .call13 .given .1)
 
 returns : tie.Need-returns
 returns c = answers-as (asked (c .before .before) _ (c .enum-told .given .1)) (answers _ (silent-said _) (λ p k. (k .is, refl)))
@@ -177,16 +183,19 @@ returns-15 : tie.Need-returns-15
 returns-15 c = answers-as (asked (c .before .before .before .before) _ (c .before .before .enum-told7 .given .1)) (c .tell-show .ensures)
 
 returns-16 : tie.Need-returns-16
-returns-16 c = answers-as (asked (c .before .before .before .before .before) _ (c .before .before .before .call9 .given .1)) (c .tell-build .ensures)
+returns-16 c = answers-as (asked (c .before .before .before .before .before) _ (c .before .before .before .call9 .given .1)) (c .tell-hint .ensures)
 
 returns-17 : tie.Need-returns-17
-returns-17 c = answers-as (asked (c .before .before .before .before .before) _ (c .before .before .before .call10 .given .1)) (c .tell-late .ensures)
+returns-17 c = answers-as (asked (c .before .before .before .before .before) _ (c .before .before .before .call10 .given .1)) (c .tell-build .ensures)
 
 returns-18 : tie.Need-returns-18
-returns-18 c = answers-as (asked (c .before .before .before .before .before) _ (c .before .before .before .call11 .given .1)) (c .tell-distance .ensures)
+returns-18 c = answers-as (asked (c .before .before .before .before .before) _ (c .before .before .before .call11 .given .1)) (c .tell-late .ensures)
 
 returns-19 : tie.Need-returns-19
-returns-19 c = answers-as (asked (c .before .before .before .before .before) _ (c .before .before .before .call12 .given .1)) (c .tell-equations .ensures)
+returns-19 c = answers-as (asked (c .before .before .before .before .before) _ (c .before .before .before .call12 .given .1)) (c .tell-distance .ensures)
+
+returns-20 : tie.Need-returns-20
+returns-20 c = answers-as (asked (c .before .before .before .before .before) _ (c .before .before .before .call13 .given .1)) (c .tell-equations .ensures)
 
 pub answer-line-spec : {M : Type 1} → statement M
 answer-line-spec =
@@ -223,12 +232,14 @@ answer-line-spec =
     enum-told-7
     tell-show-requires
     enum-known-call-9
-    tell-build-requires
+    tell-hint-requires
     enum-known-call-10
-    tell-late-requires
+    tell-build-requires
     enum-known-call-11
-    tell-distance-requires
+    tell-late-requires
     enum-known-call-12
+    tell-distance-requires
+    enum-known-call-13
     tell-equations-requires
     returns
     returns-2
@@ -248,4 +259,5 @@ answer-line-spec =
     returns-16
     returns-17
     returns-18
-    returns-19)
+    returns-19
+    returns-20)

@@ -3,8 +3,8 @@ use mathlib.Core.Path.{ap, ap₂, _∙_}
 use mathlib.Core.List.{List}
 use Prim.Native.Nat.{ℕ}
 use borrow.Author.Needs.{needs}
-use Rattle.distance.specs.Query.{answerOf}
-use Rattle.talk.specs.Texts.{distanceText}
+use Rattle.distance.specs.Query.{foundOf}
+use Rattle.talk.specs.Texts.{foundText}
 use Rattle.talk.proofs.Telling.{answers}
 use Rattle.talk.proofs.calls.tell_distance.Statement.{statement}
 use Rattle.talk.proofs.calls.tell_distance.Tie as tie
@@ -21,17 +21,17 @@ slice-aggregate-distance-parts c = search needs
 distance-parts-requires : tie.Need-distance-parts-requires
 distance-parts-requires c κs = search needs
 
-say-distance-requires : tie.Need-say-distance-requires
-say-distance-requires c κs = search needs
+say-found-requires : tie.Need-say-found-requires
+say-found-requires c κs = search needs
 
 returns : tie.Need-returns
 returns c =
     let x = c .before .before .distance-parts .ensures in
     let l = c .before .before .before .before .before .lay-two .ensures in
     let q = c .before .before .before .before .before .before .before .before .before .before .args .q in
-    answers _ (c .say-distance .ensures) (λ p k. (
+    answers _ (c .say-found .ensures) (λ p k. (
       k .is,
-      ap distanceText (x ∙ ap₂ (λ (ms ds : List ℕ). answerOf (q .n) ms ds (q .target) (q .d)) (l .first) (l .second)),
+      ap foundText (x ∙ ap₂ (λ (ms ds : List ℕ). foundOf (q .n) ms ds (q .target) (q .d)) (l .first) (l .second)),
     ))
 
 pub tell-distance-spec : {M : Type 1} → statement M
@@ -42,5 +42,5 @@ tell-distance-spec =
     lay-two-requires
     slice-aggregate-distance-parts
     distance-parts-requires
-    say-distance-requires
+    say-found-requires
     returns)

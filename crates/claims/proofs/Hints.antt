@@ -1,0 +1,115 @@
+-- The hint: after any calls it is what the definition gives of what is present, refused exactly by its table; and what its lines are, in the circuit's terms.
+use mathlib.Core.Path.{_≡_, refl, sym, ap, _∙_, subst}
+use mathlib.Core.Bool.{Bool, true, true≢false, cond}
+use mathlib.Core.List.{List}
+use Prim.Native.Nat.{ℕ, _≤_, _<_}
+use native.Mathlib.Decide.{decLt}
+use native.Mathlib.Omega.{arith}
+use borrow.Author.Tests.{lt-ltb}
+use lib.ListN.{length, getD}
+use Rattle.circuit.specs.declared.Answer.the-variants.{Done}
+use Rattle.circuit.specs.declared.Refusal.{Refusal}
+use Rattle.circuit.specs.declared.Refusal.the-variants.{NotThere}
+use Rattle.circuit.specs.Gate.{rowOn}
+use Rattle.circuit.specs.Lines.{Listing, gateAt, values}
+use Rattle.circuit.specs.Rules.{listingAnswer}
+use Rattle.circuit.specs.Sizes.{mostInputs}
+use Rattle.distance.specs.declared.FoundNumbers.{FoundNumbers}
+use Rattle.targets.specs.Target.{Target, matrix, table, wants}
+use Rattle.targets.proofs.Fitting.{row-none}
+use Rattle.bench.specs.declared.Bench.{Bench}
+use Rattle.bench.specs.State.{State, Present, nothing, present, Sound, SoundPresent}
+use Rattle.bench.specs.Held.{emptyBench, Stands}
+use Rattle.bench.specs.Run.{Call, presentAfter, Runs}
+use Rattle.bench.proofs.RunLaws.{after-calls}
+use Rattle.hint.specs.declared.Answer.{Answer}
+use Rattle.hint.specs.declared.Answer.the-variants.{Gates, Never, Refused}
+use Rattle.hint.specs.declared.Hinted.{Hinted}
+use Rattle.hint.specs.Hint.{sumOf, masksOf, picked, noHint, hintFor, hintUnder, hintOf, hintNo, hintNumbers, HintPromise, HintCode}
+use Rattle.hint.proofs.Refusing.{row-fits}
+use Rattle.hint.proofs.Theorems as hints
+use Rattle.hint.proofs.Theorems.{Reaches, HintRight, told}
+use Rattle.claims.proofs.Causes.{first, accepted, GivenExactly, hit, miss, none-left}
+use Rattle.claims.proofs.Tables.{NoRow, RowIsZero, hintTable}
+
+-- ---- the numbers
+
+-- an answer that is no refusal has the number 0
+not-refused : (a : Answer) → ((w : Refusal) → a ≡ Refused w → ⊥) → hintNo a ≡ 0
+not-refused (Gates g) h = refl
+not-refused Never h = refl
+not-refused (Refused w) h = absurd (h w refl)
+
+module _ (s : State) (ok : Sound s) (j D : ℕ) where
+  -- what is left where the row is there: the depth (9)
+  depth-law : (rows : List ℕ) → s .target ≡ matrix rows → j < length rows → Dec (15 < D) → GivenExactly (hintNo (hintFor (s .circuit) (getD rows j 0) D .answer)) (first 9 (15 < D) accepted)
+  depth-law rows e h (yes deep) = subst (λ (n : ℕ). GivenExactly n (first 9 (15 < D) accepted)) (ap hintNo (sym (hints.hint-too-deep s ok rows e j D h deep))) (hit 9 accepted deep)
+  depth-law rows e h (no flat) =
+      subst (λ (n : ℕ). GivenExactly n (first 9 (15 < D) accepted)) (sym (not-refused (hintFor (s .circuit) (getD rows j 0) D .answer) (hints.hint-not-refused s ok rows e j D h (omega arith))))
+      (miss 9 0 accepted flat none-left)
+
+  -- a row that is there is not 0
+  row-some : (rows : List ℕ) → s .target ≡ matrix rows → j < length rows → getD rows j 0 ≡ 0 → ⊥
+  row-some rows e h z = true≢false (sym (row-none (s .circuit .inputs) (getD rows j 0) z ∙ row-fits s ok rows e j D h))
+
+  under : (t : Target) → s .target ≡ t → GivenExactly (hintNo (hintUnder (s .circuit) t j D .answer)) (first 12 (NoRow t j) (first 8 (RowIsZero t j) (first 9 (15 < D) accepted)))
+  under (table entries) e = hit 12 (first 8 ⊥ (first 9 (15 < D) accepted)) tt
+  under (matrix rows) e = by (decLt j (length rows))
+    where
+      by : Dec (j < length rows) → GivenExactly (hintNo (hintUnder (s .circuit) (matrix rows) j D .answer)) (first 12 (length rows ≤ j) (first 8 (getD rows j 0 ≡ 0) (first 9 (15 < D) accepted)))
+      by (yes h) =
+          let number = hintNo (hintFor (s .circuit) (getD rows j 0) D .answer) in
+          let deep = first 9 (15 < D) accepted in
+          let is = ap (λ (x : Bool). hintNo (cond x (hintFor (s .circuit) (getD rows j 0) D) (noHint NotThere) .answer)) (lt-ltb j (length rows) h) in
+          subst (λ (n : ℕ). GivenExactly n (first 12 (length rows ≤ j) (first 8 (getD rows j 0 ≡ 0) deep))) (sym is)
+          (miss 12 number (first 8 (getD rows j 0 ≡ 0) deep) (λ none. omega arith) (miss 8 number deep (row-some rows e h) (depth-law rows e h (decLt 15 D))))
+      by (no h) =
+          subst (λ (n : ℕ). GivenExactly n (first 12 (length rows ≤ j) (first 8 (getD rows j 0 ≡ 0) (first 9 (15 < D) accepted)))) (sym (hints.number-no-row (s .circuit) rows j D (omega arith)))
+          (hit 12 (first 8 (getD rows j 0 ≡ 0) (first 9 (15 < D) accepted)) (omega arith))
+
+hint-law : (p : Present) (j D : ℕ) → SoundPresent p → GivenExactly (hintNo (hintOf p j D .answer)) (hintTable p j D)
+hint-law nothing j D ok = λ n. (sym, sym)
+hint-law (present s) j D ok = under s ok j D (s .target) refl
+
+-- ---- After any calls. `now` is what is present.
+module _ {b : Bench} {calls : List Call} (run : Runs emptyBench calls b) (j D : ℕ) where
+  abbrev now : Present
+  now = presentAfter calls
+
+  stands : Stands b now
+  stands = after-calls run
+
+  -- What meets the promise of a hint is what the definition gives of what is present, in numbers too;
+  pub hint-given : (r : Hinted) → HintPromise b j D r → r ≡ hintOf now j D
+  hint-given r h = h now stands
+
+  pub hint-given-numbered : (r : FoundNumbers) → HintCode b j D r → r ≡ hintNumbers (hintOf now j D)
+  hint-given-numbered r h = h now stands
+
+  -- its number is given exactly by the table: 13, 12, 8, 9.
+  pub hint-numbers : (r : Hinted) → HintPromise b j D r → GivenExactly (hintNo (r .answer)) (hintTable now j D)
+  hint-numbers r h = subst (λ (a : Hinted). GivenExactly (hintNo (a .answer)) (hintTable now j D)) (sym (hint-given r h)) (hint-law now j D (stands .sound))
+
+  -- Of row j of an open matrix:
+  module _ (s : State) (here : now ≡ present s) (rows : List ℕ) (e : s .target ≡ matrix rows) (there : j < length rows) (r : Hinted) (meets : HintPromise b j D r) where
+    standing : Stands b (present s)
+    standing = subst (Stands b) here stands
+
+    is : r ≡ hintFor (s .circuit) (getD rows j 0) D
+    is = hints.hint-is b j D s rows standing e there r meets
+
+    -- g gates: the lines beside it are g + 1 lines of the circuit that reach the row within the depth; no fewer do, and of those that are as few these come
+    -- first. Their values sum to what the matrix wants of output j on every input.
+    pub hint-lines : (g : ℕ) → r .answer ≡ Gates g
+        → HintRight (s .circuit) (getD rows j 0) D g (told r)
+        × ((x : ℕ) → sumOf (picked (told r) (values x (s .circuit .inputs) (gateAt (s .circuit)) (length (s .circuit .gates)))) ≡ wants (matrix rows) x j)
+    hint-lines = hints.hint-makes b j D s rows standing e there r meets
+
+    -- None: no lines reach it.
+    pub hint-none : r .answer ≡ Never → (ys : List ℕ) → Reaches (s .circuit) (getD rows j 0) D ys → ⊥
+    hint-none never = hints.hint-never (s .circuit) (getD rows j 0) D (sym (ap (λ (h : Hinted). h .answer) is) ∙ never)
+
+-- The masks that a hint counts by are what the lines compute: under a matrix a line's value on an input is the row of its mask on that input.
+pub masks-compute : (c : Listing) → listingAnswer true c ≡ Done
+    → (x i : ℕ) → getD (values x (c .inputs) (gateAt c) (length (c .gates))) i 0 ≡ rowOn mostInputs (getD (masksOf c) i 0) x
+masks-compute = hints.masks-compute
