@@ -36,7 +36,7 @@ use Rattle.distance.specs.declared.Found.{Found}
 use Rattle.distance.specs.declared.FoundNumbers.{FoundNumbers}
 use Rattle.distance.specs.Base.{baseOf, Line}
 use Rattle.distance.specs.Distance.{Gap, gates, never, distance, can, gapFrom}
-use Rattle.distance.specs.Query.{lookAt, answered, answerOf, found, foundOf, foundCode, distanceNo, distanceCode, queryRefusalNo, whereSound}
+use Rattle.distance.specs.Query.{lookAt, answered, answerOf, found as withLines, foundOf, foundCode, distanceNo, distanceCode, queryRefusalNo, whereSound}
 use Rattle.distance.proofs.Refuse.{fit}
 use Rattle.distance.proofs.Theorems as distances
 use Rattle.builder.specs.Call.{built, refusal, buildAnswer, Builds, BuildsNumbered}
@@ -258,10 +258,10 @@ pub distance-numbers : (n : ℕ) (ms ds : List ℕ) (t D : ℕ) (r : Found) → 
 distance-numbers n ms ds t D r e = subst (λ (a : Found). GivenExactly (distanceNo (a .answer)) (distanceTable n ms ds t D)) (sym e) (distance-law n ms ds t D)
 
 -- a refused query answers no lines
-pub distance-refused : (n : ℕ) (ms ds : List ℕ) (t D : ℕ) (r : Found) (w : QueryRefusal) → r ≡ foundOf n ms ds t D → r .answer ≡ Unanswered w → r ≡ found (Unanswered w) []
+pub distance-refused : (n : ℕ) (ms ds : List ℕ) (t D : ℕ) (r : Found) (w : QueryRefusal) → r ≡ foundOf n ms ds t D → r .answer ≡ Unanswered w → r ≡ withLines (Unanswered w) []
 distance-refused n ms ds t D r w e f =
     let a = sym (ap (λ (x : Found). x .answer) e) ∙ f in
-    e ∙ ap₂ found a (distances.query-refused-lines n ms ds t D w (distances.query-refused n ms ds t D w .0 a))
+    e ∙ ap₂ withLines a (distances.query-refused-lines n ms ds t D w (distances.query-refused n ms ds t D w .0 a))
 
 -- the query in numbers: 100 and the refusal's, and what is not refused is below that
 pub distance-numbered : (n : ℕ) (ms ds : List ℕ) (t D : ℕ) (r : FoundNumbers) → r ≡ foundCode (foundOf n ms ds t D) → GivenExactly (r .code - 100) (distanceTable n ms ds t D)

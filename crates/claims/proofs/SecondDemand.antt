@@ -128,8 +128,8 @@ module _ (n : ℕ) (ms ds : List ℕ) (t D : ℕ) (r : Found) (meets : r ≡ fou
   answers : r .answer ≡ answerOf n ms ds t D
   answers = ap (λ (f : Found). f .answer) meets
 
-  lines : linesBeside r ≡ linesOf n ms ds t D
-  lines = ap linesBeside meets ∙ take-append-seam (linesOf n ms ds t D) (replicate (8 - length (linesOf n ms ds t D)) 0)
+  beside : linesBeside r ≡ linesOf n ms ds t D
+  beside = ap linesBeside meets ∙ take-append-seam (linesOf n ms ds t D) (replicate (8 - length (linesOf n ms ds t D)) 0)
 
   looks : lookAt n ms ds t D ≡ Looks
   unfolding answerOf
@@ -154,7 +154,7 @@ module _ (n : ℕ) (ms ds : List ℕ) (t D : ℕ) (r : Found) (meets : r ≡ fou
   -- The lines beside a distance are a set that makes the target within the depth, one more than the gates; no set is smaller, and no other of its
   -- size comes before it.
   pub query-lines : (g : ℕ) → r .answer ≡ Gates g → FirstSmallest (baseOf ms ds) t (2 ^ D) (suc g) (linesBeside r)
-  query-lines g e = subst (FirstSmallest (baseOf ms ds) t (2 ^ D) (suc g)) (sym lines) (distances.query-lines n ms ds t D looks g (sym answers ∙ e))
+  query-lines g e = subst (FirstSmallest (baseOf ms ds) t (2 ^ D) (suc g)) (sym beside) (distances.query-lines n ms ds t D looks g (sym answers ∙ e))
 
   -- So they are those: there is one such list of numbers.
   pub query-lines-only : (g : ℕ) → r .answer ≡ Gates g → (xs : List ℕ) → FirstSmallest (baseOf ms ds) t (2 ^ D) (suc g) xs → xs ≡ linesBeside r
@@ -162,7 +162,7 @@ module _ (n : ℕ) (ms ds : List ℕ) (t D : ℕ) (r : Found) (meets : r ≡ fou
 
   -- Where there is no distance there are none.
   pub query-no-lines : r .answer ≡ Never → linesBeside r ≡ []
-  query-no-lines e = lines ∙ distances.query-no-lines n ms ds t D looks (sym answers ∙ e)
+  query-no-lines e = beside ∙ distances.query-no-lines n ms ds t D looks (sym answers ∙ e)
 
 -- ---- The first pair that the rule takes for a row one gate away is the query's set of two lines: the same numbers.
 pub first-pair-is-set : (ls : List Line) (r : Row) → distance 8 ls (r .mask) (r .limit) ≡ gates 1

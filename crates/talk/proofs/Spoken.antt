@@ -4,7 +4,7 @@ use mathlib.Core.List.{List, []}
 use Prim.Native.Nat.{ℕ, _+_, _≤_, _<_, min}
 use native.Mathlib.Omega.{arith}
 use native.Mathlib.Decide.{decLt}
-use lib.ListN.{length, take, drop}
+use lib.ListN.{length, take, drop, length-take}
 use lib.Seq.{take-at, drop-at, take-all}
 use Rattle.text.specs.Putting.{Put}
 use Rattle.text.proofs.Putting.{put-none, put-as, counted}
@@ -29,18 +29,20 @@ module _ {before after : List ℕ} {r : ℕ} {s : List ℕ} (h : Said before aft
       let p = h .put in
       ap (drop r) (p .room) ∙ drop-at s (drop (0 + length s) before) r (omega (arith, p .next)) ∙ ap (λ (k : ℕ). drop k before) (sym (p .next))
 
--- more than all of a list is all of it
-take-least : (k most : ℕ) (l : List ℕ) → length l ≡ most → take (min k most) l ≡ take k l
-take-least k most l e = by (decLt k most) where
-  by : Dec (k < most) → take (min k most) l ≡ take k l
-  by (yes h) = let m : min k most ≡ k = omega arith in ap (λ (x : ℕ). take x l) m
-  by (no h) =
-      let m : min k most ≡ most = omega (arith, h) in
-      ap (λ (x : ℕ). take x l) m ∙ take-all most l (omega arith) ∙ sym (take-all k l (omega (arith, h)))
+-- `k` entries are shown of a list of `most`: the first `count`, or all where there are not so many
+pub record Shown (k count most : ℕ) (l : List ℕ) : Type 0 where
+  pub counts : k ≡ length (take k l)
+  pub few : length (take k l) ≤ most
+  pub first : take k l ≡ take count l
 
--- and so `count` entries, or as many as there are, are the first `count`
-pub take-at-most : {k : ℕ} (count most : ℕ) (l : List ℕ) → length l ≡ most → k ≡ min count most → take k l ≡ take count l
-take-at-most count most l e m = ap (λ (x : ℕ). take x l) m ∙ take-least count most l e
+pub shown : {k : ℕ} (count most : ℕ) (l : List ℕ) → length l ≡ most → k ≡ min count most → Shown k count most l
+shown {k} count most l e m = record { counts = omega (arith, length-take k l); few = omega (arith, length-take k l); first = ap (λ (x : ℕ). take x l) m ∙ by (decLt count most) }
+  where
+    by : Dec (count < most) → take (min count most) l ≡ take count l
+    by (yes h) = let less : min count most ≡ count = omega arith in ap (λ (x : ℕ). take x l) less
+    by (no h) =
+        let all : min count most ≡ most = omega (arith, h) in
+        ap (λ (x : ℕ). take x l) all ∙ take-all most l (omega arith) ∙ sym (take-all count l (omega (arith, h)))
 
 -- nothing is said
 pub silent-said : (room : List ℕ) → Said room room 0 []
