@@ -1,20 +1,26 @@
 -- The hint: after any calls it is what the definition gives of what is present, refused exactly by its table; and what its lines are, in the circuit's terms.
-use mathlib.Core.Path.{_≡_, refl, sym, ap, _∙_, subst}
-use mathlib.Core.Bool.{Bool, true, true≢false, cond}
+use mathlib.Core.Path.{_≡_, refl, sym, ap, ap₂, _∙_, subst}
+use mathlib.Core.Bool.{Bool, true, false, true≢false, cond}
 use mathlib.Core.List.{List}
-use Prim.Native.Nat.{ℕ, _≤_, _<_}
+use Prim.Native.Nat.{ℕ, _-_, _≤_, _<_}
 use native.Mathlib.Decide.{decLt}
 use native.Mathlib.Omega.{arith}
 use borrow.Author.Tests.{lt-ltb}
+use lib.Dec.{ltb}
 use lib.ListN.{length, getD}
 use Rattle.circuit.specs.declared.Answer.the-variants.{Done}
 use Rattle.circuit.specs.declared.Refusal.{Refusal}
-use Rattle.circuit.specs.declared.Refusal.the-variants.{NotThere}
+use Rattle.circuit.specs.declared.Refusal.the-variants.{NotThere, NothingOpen}
 use Rattle.circuit.specs.Gate.{rowOn}
 use Rattle.circuit.specs.Lines.{Listing, gateAt, values}
 use Rattle.circuit.specs.Rules.{listingAnswer}
 use Rattle.circuit.specs.Sizes.{mostInputs}
+use Rattle.distance.specs.declared.Answer.{Answer as QueryAnswer}
+use Rattle.distance.specs.declared.Answer.the-variants.{Gates as QueryGates, Never as QueryNever, Refused as QueryRefused}
+use Rattle.distance.specs.declared.Refusal.{Refusal as QueryRefusal}
 use Rattle.distance.specs.declared.FoundNumbers.{FoundNumbers}
+use Rattle.distance.specs.Query.{answerOf, foundOf, foundCode, distanceNo}
+use Rattle.distance.proofs.Theorems as distances
 use Rattle.targets.specs.Target.{Target, matrix, table, wants}
 use Rattle.targets.proofs.Fitting.{row-none}
 use Rattle.bench.specs.declared.Bench.{Bench}
@@ -25,12 +31,14 @@ use Rattle.bench.proofs.RunLaws.{after-calls}
 use Rattle.hint.specs.declared.Answer.{Answer}
 use Rattle.hint.specs.declared.Answer.the-variants.{Gates, Never, Refused}
 use Rattle.hint.specs.declared.Hinted.{Hinted}
-use Rattle.hint.specs.Hint.{sumOf, masksOf, picked, noHint, hintFor, hintUnder, hintOf, hintNo, hintNumbers, HintPromise, HintCode}
+use Rattle.hint.specs.Hint.{sumOf, masksOf, depthsOf, shallow, picked, hinted, noHint, hintAnswer, hintFor, hintUnder, hintOf, hintNo, hintCode, hintNumbers, HintPromise, HintCode}
 use Rattle.hint.proofs.Refusing.{row-fits}
 use Rattle.hint.proofs.Theorems as hints
 use Rattle.hint.proofs.Theorems.{Reaches, HintRight, told}
 use Rattle.claims.proofs.Causes.{first, accepted, GivenExactly, hit, miss, none-left}
 use Rattle.claims.proofs.Tables.{NoRow, RowIsZero, hintTable}
+use Rattle.claims.proofs.Following.{distance-law}
+use Rattle.claims.proofs.FirstDemand.{distance-numbered}
 
 -- ---- the numbers
 
@@ -71,6 +79,74 @@ hint-law : (p : Present) (j D : ℕ) → SoundPresent p → GivenExactly (hintNo
 hint-law nothing j D ok = λ n. (sym, sym)
 hint-law (present s) j D ok = under s ok j D (s .target) refl
 
+-- ---- what stands beside a number
+
+-- the number of a query's answer is that of the hint
+same-number : (a : QueryAnswer) → hintNo (hintAnswer a) ≡ distanceNo a
+same-number (QueryGates g) = refl
+same-number QueryNever = refl
+same-number (QueryRefused why) = hints.refusal-number why
+
+-- a query's answer that a hint refuses is refused
+query-refused : (a : QueryAnswer) (w : Refusal) → hintAnswer a ≡ Refused w → (why : QueryRefusal) × (a ≡ QueryRefused why)
+query-refused (QueryGates g) w e = let z : _≡_ {A = ℕ} 0 1 = cc in absurd (omega arith)
+query-refused QueryNever w e = let z : _≡_ {A = ℕ} 0 1 = cc in absurd (omega arith)
+query-refused (QueryRefused why) w e = (why, refl)
+
+module _ (c : Listing) (t D : ℕ) where
+  abbrev is : List ℕ
+  is = shallow (depthsOf c)
+
+  abbrev ms : List ℕ
+  ms = picked is (masksOf c)
+
+  abbrev ds : List ℕ
+  ds = picked is (depthsOf c)
+
+  -- as one number: 100 and the refusal's, and what is not refused is below that
+  code-for : hintCode (hintFor c t D .answer) - 100 ≡ hintNo (hintFor c t D .answer)
+  unfolding hintFor
+  code-for =
+      let a = answerOf (c .inputs) ms ds t D in
+      ap (λ (n : ℕ). n - 100) (hints.answer-code a)
+      ∙ distance-numbered (c .inputs) ms ds t D (foundCode (foundOf (c .inputs) ms ds t D)) refl (distanceNo a) .1 (distance-law (c .inputs) ms ds t D (distanceNo a) .0 refl)
+      ∙ sym (same-number a)
+
+  -- a refusal stands alone
+  alone-for : (w : Refusal) → hintFor c t D .answer ≡ Refused w → hintFor c t D ≡ noHint w
+  unfolding hintFor
+  alone-for w e =
+      let q = query-refused (answerOf (c .inputs) ms ds t D) w e in
+      let look = distances.query-refused (c .inputs) ms ds t D (q .0) .0 (q .1) in
+      ap₂ (λ (a : Answer) (xs : List ℕ). hinted a (picked xs is)) e (distances.query-refused-lines (c .inputs) ms ds t D (q .0) look)
+
+same-refusal : (v w : Refusal) → Refused v ≡ Refused w → noHint v ≡ noHint w
+same-refusal v w e = let z : v ≡ w = cc in ap noHint z
+
+code-law : (p : Present) (j D : ℕ) → hintCode (hintOf p j D .answer) - 100 ≡ hintNo (hintOf p j D .answer)
+code-law nothing j D = refl
+code-law (present s) j D = under (s .target)
+  where
+    row : (x : Bool) (t : ℕ) → hintCode (cond x (hintFor (s .circuit) t D) (noHint NotThere) .answer) - 100 ≡ hintNo (cond x (hintFor (s .circuit) t D) (noHint NotThere) .answer)
+    row true t = code-for (s .circuit) t D
+    row false t = refl
+
+    under : (t : Target) → hintCode (hintUnder (s .circuit) t j D .answer) - 100 ≡ hintNo (hintUnder (s .circuit) t j D .answer)
+    under (matrix rows) = row (ltb j (length rows)) (getD rows j 0)
+    under (table entries) = refl
+
+alone : (p : Present) (j D : ℕ) (w : Refusal) → hintOf p j D .answer ≡ Refused w → hintOf p j D ≡ noHint w
+alone nothing j D w e = same-refusal NothingOpen w e
+alone (present s) j D w e = under (s .target) e
+  where
+    row : (x : Bool) (t : ℕ) → cond x (hintFor (s .circuit) t D) (noHint NotThere) .answer ≡ Refused w → cond x (hintFor (s .circuit) t D) (noHint NotThere) ≡ noHint w
+    row true t e = alone-for (s .circuit) t D w e
+    row false t e = same-refusal NotThere w e
+
+    under : (t : Target) → hintUnder (s .circuit) t j D .answer ≡ Refused w → hintUnder (s .circuit) t j D ≡ noHint w
+    under (matrix rows) e = row (ltb j (length rows)) (getD rows j 0) e
+    under (table entries) e = same-refusal NotThere w e
+
 -- ---- After any calls. `now` is what is present.
 module _ {b : Bench} {calls : List Call} (run : Runs emptyBench calls b) (j D : ℕ) where
   abbrev now : Present
@@ -90,13 +166,21 @@ module _ {b : Bench} {calls : List Call} (run : Runs emptyBench calls b) (j D : 
   pub hint-numbers : (r : Hinted) → HintPromise b j D r → GivenExactly (hintNo (r .answer)) (hintTable now j D)
   hint-numbers r h = subst (λ (a : Hinted). GivenExactly (hintNo (a .answer)) (hintTable now j D)) (sym (hint-given r h)) (hint-law now j D (stands .sound))
 
+  pub hint-numbered : (r : FoundNumbers) → HintCode b j D r → GivenExactly (r .code - 100) (hintTable now j D)
+  hint-numbered r h =
+      subst (λ (n : ℕ). GivenExactly n (hintTable now j D)) (sym (ap (λ (x : FoundNumbers). x .code - 100) (hint-given-numbered r h) ∙ code-law now j D)) (hint-law now j D (stands .sound))
+
+  -- Nothing stands beside a refusal.
+  pub hint-refused : (r : Hinted) (w : Refusal) → HintPromise b j D r → r .answer ≡ Refused w → r ≡ noHint w
+  hint-refused r w h e = let g = hint-given r h in g ∙ alone now j D w (sym (ap (λ (x : Hinted). x .answer) g) ∙ e)
+
   -- Of row j of an open matrix:
   module _ (s : State) (here : now ≡ present s) (rows : List ℕ) (e : s .target ≡ matrix rows) (there : j < length rows) (r : Hinted) (meets : HintPromise b j D r) where
     standing : Stands b (present s)
     standing = subst (Stands b) here stands
 
-    is : r ≡ hintFor (s .circuit) (getD rows j 0) D
-    is = hints.hint-is b j D s rows standing e there r meets
+    row-hint : r ≡ hintFor (s .circuit) (getD rows j 0) D
+    row-hint = hints.hint-is b j D s rows standing e there r meets
 
     -- g gates: the lines beside it are g + 1 lines of the circuit that reach the row within the depth; no fewer do, and of those that are as few these come
     -- first. Their values sum to what the matrix wants of output j on every input.
@@ -107,7 +191,7 @@ module _ {b : Bench} {calls : List Call} (run : Runs emptyBench calls b) (j D : 
 
     -- None: no lines reach it.
     pub hint-none : r .answer ≡ Never → (ys : List ℕ) → Reaches (s .circuit) (getD rows j 0) D ys → ⊥
-    hint-none never = hints.hint-never (s .circuit) (getD rows j 0) D (sym (ap (λ (h : Hinted). h .answer) is) ∙ never)
+    hint-none never = hints.hint-never (s .circuit) (getD rows j 0) D (sym (ap (λ (h : Hinted). h .answer) row-hint) ∙ never)
 
 -- The masks that a hint counts by are what the lines compute: under a matrix a line's value on an input is the row of its mask on that input.
 pub masks-compute : (c : Listing) → listingAnswer true c ≡ Done
