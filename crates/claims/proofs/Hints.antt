@@ -1,7 +1,7 @@
 -- The hint: after any calls it is what the definition gives of what is present, refused exactly by its table; and what its lines are, in the circuit's terms.
 use mathlib.Core.Path.{_≡_, refl, sym, ap, ap₂, _∙_, subst}
 use mathlib.Core.Bool.{Bool, true, false, true≢false, cond}
-use mathlib.Core.List.{List}
+use mathlib.Core.List.{List, map}
 use Prim.Native.Nat.{ℕ, _-_, _≤_, _<_}
 use native.Mathlib.Decide.{decLt}
 use native.Mathlib.Omega.{arith}
@@ -19,6 +19,7 @@ use Rattle.distance.specs.declared.Answer.{Answer as QueryAnswer}
 use Rattle.distance.specs.declared.Answer.the-variants.{Gates as QueryGates, Never as QueryNever, Refused as QueryRefused}
 use Rattle.distance.specs.declared.Refusal.{Refusal as QueryRefusal}
 use Rattle.distance.specs.declared.FoundNumbers.{FoundNumbers}
+use Rattle.distance.specs.Base.{Program}
 use Rattle.distance.specs.Query.{answerOf, foundOf, foundCode, distanceNo}
 use Rattle.distance.proofs.Theorems as distances
 use Rattle.targets.specs.Target.{Target, matrix, table, wants}
@@ -34,7 +35,7 @@ use Rattle.hint.specs.declared.Hinted.{Hinted}
 use Rattle.hint.specs.Hint.{sumOf, masksOf, depthsOf, shallow, picked, hinted, noHint, hintAnswer, hintFor, hintUnder, hintOf, hintNo, hintCode, hintNumbers, HintPromise, HintCode}
 use Rattle.hint.proofs.Refusing.{row-fits}
 use Rattle.hint.proofs.Theorems as hints
-use Rattle.hint.proofs.Theorems.{Reaches, HintRight, told}
+use Rattle.hint.proofs.Theorems.{Reaches, HintRight, told, lineAt}
 use Rattle.claims.proofs.Causes.{first, accepted, GivenExactly, hit, miss, none-left}
 use Rattle.claims.proofs.Tables.{NoRow, RowIsZero, hintTable}
 use Rattle.claims.proofs.Following.{distance-law}
@@ -188,6 +189,10 @@ module _ {b : Bench} {calls : List Call} (run : Runs emptyBench calls b) (j D : 
         → HintRight (s .circuit) (getD rows j 0) D g (told r)
         × ((x : ℕ) → sumOf (picked (told r) (values x (s .circuit .inputs) (gateAt (s .circuit)) (length (s .circuit .gates)))) ≡ wants (matrix rows) x j)
     hint-lines = hints.hint-makes b j D s rows standing e there r meets
+
+    -- By themselves they make the row within the depth, by g gates.
+    pub hint-program : (g : ℕ) → r .answer ≡ Gates g → Program (map (lineAt (s .circuit)) (told r)) g (getD rows j 0) D
+    hint-program g a = let right = hint-lines g a .0 in hints.reached-makes (s .circuit) (getD rows j 0) D g (told r) (right .count) (right .reaches)
 
     -- None: no lines reach it.
     pub hint-none : r .answer ≡ Never → (ys : List ℕ) → Reaches (s .circuit) (getD rows j 0) D ys → ⊥

@@ -32,7 +32,7 @@ use Rattle.distance.specs.declared.Looked.{Looked}
 use Rattle.distance.specs.declared.Looked.the-variants.{Sound as Looks, Unsound}
 use Rattle.distance.specs.declared.Found.{Found}
 use Rattle.distance.specs.declared.Answer.the-variants.{Gates, Never}
-use Rattle.distance.specs.Base.{Line, Xor, baseOf, inputs, arriving, run, weight, Small, Program, Fewest, SetOf, Smallest}
+use Rattle.distance.specs.Base.{Line, none, Xor, baseOf, inputs, arriving, run, weight, Small, Program, Fewest, SetOf, Smallest}
 use Rattle.distance.specs.Distance.{gates, never, distance, numbers, firstSet, FirstSmallest}
 use Rattle.distance.specs.Query.{lookAt, answered, answerOf, linesOf, foundOf, distanceNo, queryRefusalNo, whereSound}
 use Rattle.distance.proofs.Theorems as distances
@@ -155,6 +155,11 @@ module _ (n : ℕ) (ms ds : List ℕ) (t D : ℕ) (r : Found) (meets : r ≡ fou
   -- size comes before it.
   pub query-lines : (g : ℕ) → r .answer ≡ Gates g → FirstSmallest (baseOf ms ds) t (2 ^ D) (suc g) (linesBeside r)
   query-lines g e = subst (FirstSmallest (baseOf ms ds) t (2 ^ D) (suc g)) (sym beside) (distances.query-lines n ms ds t D looks g (sym answers ∙ e))
+
+  -- By themselves they make the target within the depth, by as many gates.
+  pub query-lines-make : (g : ℕ) → r .answer ≡ Gates g → Program (map (λ (i : ℕ). getD (baseOf ms ds) i none) (linesBeside r)) g t D
+  query-lines-make g e =
+      subst (λ (xs : List ℕ). Program (map (λ (i : ℕ). getD (baseOf ms ds) i none) xs) g t D) (sym beside) (distances.query-lines-make n ms ds t D looks g (sym answers ∙ e))
 
   -- So they are those: there is one such list of numbers.
   pub query-lines-only : (g : ℕ) → r .answer ≡ Gates g → (xs : List ℕ) → FirstSmallest (baseOf ms ds) t (2 ^ D) (suc g) xs → xs ≡ linesBeside r

@@ -6,7 +6,8 @@ use Prim.Native.Nat.{ℕ, suc, _+_, _-_, _^_, _≤_, _<_}
 use native.Mathlib.Nat.{zero-add}
 use native.Mathlib.Omega.{arith}
 use borrow.Author.Tests.{lt-ltb, le-ltb}
-use lib.ListN.{length, getD, take, replicate}
+use lib.Bits.{bitXor}
+use lib.ListN.{length, getD, take, replicate, length-map}
 use lib.Seq.{take-at}
 use Rattle.circuit.specs.declared.Answer.the-variants.{Done}
 use Rattle.circuit.specs.declared.Refusal.{Refusal}
@@ -22,11 +23,12 @@ use Rattle.distance.specs.declared.Refusal.the-variants.{Inputs, Lists, Mask, D
 use Rattle.distance.specs.declared.Looked.{Looked}
 use Rattle.distance.specs.declared.Looked.the-variants.{Sound as Asked, Unsound as Unasked}
 use Rattle.distance.specs.declared.FoundNumbers.{FoundNumbers}
-use Rattle.distance.specs.Base.{Line, SetOf}
+use Rattle.distance.specs.Base.{Line, line, Program, maskOf, costOf, SetOf}
 use Rattle.distance.specs.Distance.{Gap, gates, never, distance, numbers, firstSet, gapLines, Leads}
 use Rattle.distance.specs.Query.{queryRefusalNo, distanceCode, lookAt, answered, whereSound, answerOf, linesWhere, linesOf}
 use Rattle.distance.proofs.Fewest.{distance-smallest, distance-no-set}
 use Rattle.distance.proofs.First.{first-smallest, first-of-sets}
+use Rattle.distance.proofs.Making.{whole, whole-makes}
 use Rattle.distance.proofs.Refuse.{fit}
 use Rattle.targets.specs.Target.{Target, matrix, table, isMatrix, wants}
 use Rattle.bench.specs.declared.Bench.{Bench}
@@ -59,6 +61,10 @@ pub record HintRight (c : Listing) (t D g : ℕ) (xs : List ℕ) : Type 0 where
 -- the lines beside a hint's answer
 abbrev pub told : Hinted → List ℕ
 told h = take (h .count) (h .lines)
+
+-- line i of a circuit: what it sums, and its depth
+abbrev pub lineAt : Listing → ℕ → Line
+lineAt c i = line (getD (masksOf c) i 0) (getD (depthsOf c) i 0)
 
 -- ---- what the masks are
 
@@ -177,6 +183,20 @@ module _ (c : Listing) (t D : ℕ) where
       let p = never-asked look gap e in
       let w = fit (c .inputs) (picked is (masksOf c)) (picked is (depthsOf c)) t D (p .0) in
       distance-no-set (c .inputs) base t D (w .small) (w .some) (p .1) (length ys) (reach-set ys (length ys) refl r)
+
+-- Lines that reach t have a program that makes it within the depth: one gate less than there are lines.
+pub reached-makes : (c : Listing) (t D g : ℕ) (xs : List ℕ) → length xs ≡ suc g → Reaches c t D xs → Program (map (lineAt c) xs) g t D
+unfolding sumOf
+reached-makes c t D g xs e r =
+    whole-makes (map (lineAt c) xs) g t D (length-map xs (lineAt c) ∙ e) (masks-sum xs ∙ r .sum) (omega (arith, costs-sum xs, r .cost))
+  where
+    masks-sum : (ys : List ℕ) → maskOf (map (lineAt c) ys) (whole (map (lineAt c) ys)) ≡ sumOf (picked ys (masksOf c))
+    masks-sum [] = refl
+    masks-sum (y ∷ ys) = ap (bitXor (getD (masksOf c) y 0)) (masks-sum ys)
+
+    costs-sum : (ys : List ℕ) → costOf (map (lineAt c) ys) (whole (map (lineAt c) ys)) ≡ spentOn (picked ys (depthsOf c))
+    costs-sum [] = refl
+    costs-sum (y ∷ ys) = ap (λ (n : ℕ). 2 ^ getD (depthsOf c) y 0 + n) (costs-sum ys)
 
 -- The values of lines that reach row j sum to what the matrix wants of output j, on every input value.
 pub reached-computes : (c : Listing) (rows : List ℕ) (j D : ℕ) (xs : List ℕ) → listingAnswer true c ≡ Done → Reaches c (getD rows j 0) D xs
