@@ -33,7 +33,7 @@ differ-four a b c d p q r s =
     odd : (x y : ℕ) → (x % 2 + y % 2) % 2 ≡ (x + y) % 2
     odd x y = omega arith
 
-differ-swap : (a b c d : ℕ) → a < 2 → b < 2 → c < 2 → d < 2 → differ (differ a b) (differ c d) ≡ differ (differ a c) (differ b d)
+pub differ-swap : (a b c d : ℕ) → a < 2 → b < 2 → c < 2 → d < 2 → differ (differ a b) (differ c d) ≡ differ (differ a c) (differ b d)
 differ-swap a b c d p q r s = omega (arith, differ-four a b c d p q r s, differ-four a c b d p r q s)
 
 -- a digit of a sum, of those that x has

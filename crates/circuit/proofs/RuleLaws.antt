@@ -8,11 +8,11 @@ use lib.Dec.{leb, ltb, eqb}
 use lib.ListN.{length, getD}
 use borrow.Author.Tests.{leb-true, ltb-true, eqb-true, lt-ltb}
 use Rattle.circuit.specs.declared.Answer.the-variants.{Done}
-use Rattle.circuit.specs.declared.Refusal.the-variants.{Shape, UnknownKind, Operand, NotXor, NoLine}
+use Rattle.circuit.specs.declared.Refusal.the-variants.{Shape, UnknownKind, Operand, NotLinear, NoLine}
 use Rattle.circuit.specs.Lines.{Gate, Listing, noGate}
-use Rattle.circuit.specs.Gate.{kindOf, allowed}
+use Rattle.circuit.specs.Gate.{kindOf, nonlinear, allowed}
 use Rattle.circuit.specs.Rules.{unless, andThen, shaped, allOf, operandsFit, gateAnswer, outAnswer, gatesAnswer, outsAnswer, listingAnswer}
-use Rattle.circuit.proofs.GateLaws.{allowed-number}
+use Rattle.circuit.proofs.GateLaws.{allowed-linear}
 use Rattle.circuit.proofs.Operands.{reads-two, reads-one, unread-two, unread-one, by-operands}
 use Rattle.circuit.proofs.Shapes.{Shaped, shape-is, past, both, then-done}
 
@@ -43,7 +43,7 @@ pub record GateFits (only : Bool) (line : ℕ) (q : Gate) : Type 0 where
   pub known : q .kind ≤ 6
   pub first : q .left < line
   pub second : q .right < line
-  pub xor : only ≡ true → q .kind ≡ 0
+  pub linear : only ≡ true → nonlinear (kindOf (q .kind)) ≡ 0
 
 -- both operands of an accepted gate are below its line
 operands-below : (line : ℕ) (q : Gate) → operandsFit line q ≡ true → (q .left < line) × (q .right < line)
@@ -59,12 +59,9 @@ unfolding gateAnswer
 gate-fits only line q h =
     let p = past (leb (q .kind) 6) UnknownKind h in
     let o = past (operandsFit line q) Operand (p .1) in
-    let r = past (allowed only (kindOf (q .kind))) NotXor (o .1) in
+    let r = past (allowed only (kindOf (q .kind))) NotLinear (o .1) in
     let b = operands-below line q (o .0) in
-    record { known = leb-true (q .kind) 6 (p .0); first = b .0; second = b .1; xor = λ e. xor-only only e (sym (allowed-number only (q .kind)) ∙ r .0) } where
-      xor-only : (t : Bool) → t ≡ true → (not t || eqb (q .kind) 0) ≡ true → q .kind ≡ 0
-      xor-only true e k = eqb-true (q .kind) 0 k
-      xor-only false e k = absurd (true≢false (sym e))
+    record { known = leb-true (q .kind) 6 (p .0); first = b .0; second = b .1; linear = allowed-linear only (kindOf (q .kind)) (r .0) }
 
 -- ---- gates and outputs one by one, and all of them
 

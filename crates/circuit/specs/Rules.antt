@@ -5,7 +5,7 @@ use Prim.Native.Nat.{ℕ, suc, _+_}
 use lib.Dec.{leb, ltb, eqb}
 use lib.ListN.{length}
 use Rattle.circuit.specs.declared.Refusal.{Refusal}
-use Rattle.circuit.specs.declared.Refusal.the-variants.{Shape, Length, Mark, UnknownKind, Operand, NoLine, NotXor, Target, TooDeep, TooShallow, NoRoom, NotThere, NothingOpen, Full}
+use Rattle.circuit.specs.declared.Refusal.the-variants.{Shape, Length, Mark, UnknownKind, Operand, NoLine, NotLinear, Target, TooDeep, TooShallow, NoRoom, NotThere, NothingOpen, Full}
 use Rattle.circuit.specs.declared.Answer.{Answer}
 use Rattle.circuit.specs.declared.Answer.the-variants.{Done, Refused}
 use Rattle.circuit.specs.Sizes.{mostInputs, mostOutputs, mostGates}
@@ -20,7 +20,7 @@ refusalNo Mark = 3
 refusalNo UnknownKind = 4
 refusalNo Operand = 5
 refusalNo NoLine = 6
-refusalNo NotXor = 7
+refusalNo NotLinear = 7
 refusalNo Target = 8
 refusalNo TooDeep = 9
 refusalNo TooShallow = 10
@@ -47,8 +47,8 @@ unless t w a = cond t a (Refused w)
 unfoldable pub shaped : ℕ → ℕ → ℕ → Bool
 shaped n m g = leb 1 n && (leb n mostInputs && (leb 1 m && (leb m mostOutputs && leb g mostGates)))
 
--- a test holds of each number
-unfoldable pub allOf : (ℕ → Bool) → List ℕ → Bool
+-- a test holds of each of them
+unfoldable pub allOf : {A : Type 0} → (A → Bool) → List A → Bool
 allOf p [] = true
 allOf p (x ∷ xs) = p x && allOf p xs
 
@@ -56,10 +56,10 @@ allOf p (x ∷ xs) = p x && allOf p xs
 unfoldable pub operandsFit : ℕ → Gate → Bool
 operandsFit line q = allOf (λ (x : ℕ). ltb x line) (reads q) && allOf (λ (x : ℕ). eqb x 0) (unread q)
 
--- a gate on a line: kind (4), operands (5), and whether its kind is allowed where only XOR is (7)
+-- a gate on a line: kind (4), operands (5), and whether its kind is allowed where only linear ones are (7)
 unfoldable pub gateAnswer : Bool → ℕ → Gate → Answer
 gateAnswer only line q =
-    unless (leb (q .kind) 6) UnknownKind (unless (operandsFit line q) Operand (unless (allowed only (kindOf (q .kind))) NotXor Done))
+    unless (leb (q .kind) 6) UnknownKind (unless (operandsFit line q) Operand (unless (allowed only (kindOf (q .kind))) NotLinear Done))
 
 -- an output names a line that is there (6)
 unfoldable pub outAnswer : ℕ → ℕ → Answer

@@ -24,3 +24,7 @@ mostValues = 256
 -- a line number and a limit are held in 16 bits: each is below this
 abbrev pub held16 : ℕ
 held16 = 65536
+
+-- a mask of inputs is held in at most 32 bits: no row has more inputs
+abbrev pub maskWidth : ℕ
+maskWidth = 32

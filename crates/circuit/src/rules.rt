@@ -41,11 +41,15 @@ fn operands_fit(line: usize, kind: usize, a: usize, b: usize) -> bool
     }
 }
 
-// Whether a kind may stand: XOR alone where `only` says so.
+// Whether a kind may stand: any but the nonlinear ones where `only` says so.
 fn is_allowed(only: bool, kind: usize) -> bool
     ensures { λ r. ⌜ r ≡ allowed only (kindOf kind) ⌝ }
 {
-    if only { kind == 0 } else { true }
+    match kind {
+        0..=1 => true,
+        2..=5 => !only,
+        _ => true,
+    }
 }
 
 // One gate: kind, operands, and what is allowed. Edits ask it too.
@@ -59,7 +63,7 @@ pub fn check_gate(only: bool, line: usize, kind: usize, a: usize, b: usize) -> A
         if is_allowed(only, kind) {
             Answer::Done
         } else {
-            Answer::Refused(Refusal::NotXor)
+            Answer::Refused(Refusal::NotLinear)
         }
     } else {
         Answer::Refused(Refusal::Operand)

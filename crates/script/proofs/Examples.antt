@@ -4,8 +4,8 @@ use mathlib.Core.List.{List, [], _∷_, map}
 use Prim.Native.Nat.{ℕ}
 use Rattle.text.specs.Places.{leading, headWord, tailWords, sameList}
 use Rattle.text.specs.Numbers.{numFrom, allHex, hexBytes}
-use Rattle.script.specs.Order.{Order, silent, unreadable, askOpenTable, askGate, askLimits, askSweep, askAppend, askStore, askHint, askBuild, askLate, askDistance, askEquations}
-use Rattle.script.specs.Reading.{number, limit, isPairs, hex, kind, noMore, byWord, orderIn}
+use Rattle.script.specs.Order.{Order, silent, unreadable, askOpenTable, askGate, askEntry, askLimits, askSweep, askAppend, askStore, askHint, askBuild, askLate, askDistance, askEquations}
+use Rattle.script.specs.Reading.{number, numberOrZero, limit, isPairs, hex, kind, noMore, byWord, orderIn}
 
 -- lines, and what each asks
 abbrev examples : List (List ℕ × Order)
@@ -20,6 +20,18 @@ examples =
     (114 ∷ 101 ∷ 112 ∷ 111 ∷ 114 ∷ 116 ∷ 32 ∷ 49 ∷ [], unreadable) ∷
     -- Report
     (82 ∷ 101 ∷ 112 ∷ 111 ∷ 114 ∷ 116 ∷ [], unreadable) ∷
+    -- entry 3 9
+    (101 ∷ 110 ∷ 116 ∷ 114 ∷ 121 ∷ 32 ∷ 51 ∷ 32 ∷ 57 ∷ [], askEntry 3 9 0) ∷
+    -- entry 3 9, and two spaces
+    (101 ∷ 110 ∷ 116 ∷ 114 ∷ 121 ∷ 32 ∷ 51 ∷ 32 ∷ 57 ∷ 32 ∷ 32 ∷ [], askEntry 3 9 0) ∷
+    -- entry 3 9 1
+    (101 ∷ 110 ∷ 116 ∷ 114 ∷ 121 ∷ 32 ∷ 51 ∷ 32 ∷ 57 ∷ 32 ∷ 49 ∷ [], askEntry 3 9 1) ∷
+    -- entry 3 9 x
+    (101 ∷ 110 ∷ 116 ∷ 114 ∷ 121 ∷ 32 ∷ 51 ∷ 32 ∷ 57 ∷ 32 ∷ 120 ∷ [], unreadable) ∷
+    -- entry 3 9 1 0
+    (101 ∷ 110 ∷ 116 ∷ 114 ∷ 121 ∷ 32 ∷ 51 ∷ 32 ∷ 57 ∷ 32 ∷ 49 ∷ 32 ∷ 48 ∷ [], unreadable) ∷
+    -- entry 3
+    (101 ∷ 110 ∷ 116 ∷ 114 ∷ 121 ∷ 32 ∷ 51 ∷ [], unreadable) ∷
     -- limits 255 0 1
     (108 ∷ 105 ∷ 109 ∷ 105 ∷ 116 ∷ 115 ∷ 32 ∷ 50 ∷ 53 ∷ 53 ∷ 32 ∷ 48 ∷ 32 ∷ 49 ∷ [], askLimits 255 0 1) ∷
     -- limits 256 0 1
@@ -65,5 +77,5 @@ examples =
     []
 
 pub examples-right : map (λ (row : List ℕ × Order). orderIn (row .0)) examples ≡ map (λ (row : List ℕ × Order). row .1) examples
-unfolding leading headWord tailWords sameList numFrom allHex hexBytes number limit isPairs hex kind noMore byWord orderIn
+unfolding leading headWord tailWords sameList numFrom allHex hexBytes number numberOrZero limit isPairs hex kind noMore byWord orderIn
 examples-right = refl

@@ -3,11 +3,9 @@ use mathlib.Core.Path.{_≡_, ap, _∙_, sym}
 use mathlib.Core.Bool.{Bool, true, false, cond}
 use mathlib.Core.List.{List, [], _∷_}
 use Prim.Native.Nat.{ℕ, _-_, _≤_, _<_}
-use native.Mathlib.Omega.{arith}
-use lib.Dec.{ltb}
 use borrow.Author.Tests.{lt-ltb, le-ltb, eq-eqb, ne-eqb}
 use lib.ListN.{length, getD, take, drop}
-use Rattle.text.specs.Places.{headWord, sameList, NextWord}
+use Rattle.text.specs.Places.{sameList, NextWord}
 use Rattle.script.specs.declared.Call.{Call}
 use Rattle.script.specs.declared.Call.the-variants.{Silent, Unreadable}
 use Rattle.script.specs.declared.words.Cursor.{Cursor}
@@ -15,7 +13,7 @@ use Rattle.script.specs.Order.{Order, unreadable, orderOf}
 use Rattle.script.specs.Reading.{Rest, noMore, Table, byWord, calls, orderIn}
 use Rattle.script.specs.Placed.{Placed, Follows, Means}
 use Rattle.script.specs.Cursors.{onward, Ends}
-use Rattle.script.proofs.Steps.{same-either, word-length}
+use Rattle.script.proofs.Steps.{same-either, some-word, no-word}
 
 -- a call that means an order means one that is equal to it
 pub means-as : {line : List ℕ} {r : Call} {o p : Order} → p ≡ o → Means line r o → Means line r p
@@ -63,19 +61,15 @@ module _ {line : List ℕ} {from to : ℕ} (l : length line ≤ 65535) (n : Next
   pub is-blank : to ≤ from → Means line Silent (orderIn line)
   unfolding orderIn
   is-blank h =
-      record { meaning = rw (le-ltb 65535 (length line) l, le-ltb 0 (length (headWord line)) (omega (arith, word-length n))); places = tt; follows = tt }
+      record { meaning = rw (le-ltb 65535 (length line) l, no-word n h); places = tt; follows = tt }
 
   module _ (h : from < to) where
-    -- there is a word
-    some-word : ltb 0 (length (headWord line)) ≡ true
-    some-word = lt-ltb 0 (length (headWord line)) (omega (arith, word-length n))
-
     pub is-note : getD line 0 0 ≡ 35 → Means line Silent (orderIn line)
     unfolding orderIn
-    is-note e = record { meaning = rw (le-ltb 65535 (length line) l, some-word, eq-eqb _ _ e); places = tt; follows = tt }
+    is-note e = record { meaning = rw (le-ltb 65535 (length line) l, some-word n h, eq-eqb _ _ e); places = tt; follows = tt }
 
     pub is-call : {r : Call} → (getD line 0 0 ≡ 35 → ⊥)
         → Means line r (onward line (record { readable = true; at = to }) (byWord calls (take (to - from) (drop from line)))) → Means line r (orderIn line)
     unfolding orderIn onward
     is-call e m =
-        means-as (rw (le-ltb 65535 (length line) l, some-word, ne-eqb _ _ e) (λ i. byWord calls (sym (n .word) i) (sym (n .rest) i))) m
+        means-as (rw (le-ltb 65535 (length line) l, some-word n h, ne-eqb _ _ e) (λ i. byWord calls (sym (n .word) i) (sym (n .rest) i))) m

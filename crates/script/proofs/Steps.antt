@@ -4,6 +4,7 @@ use mathlib.Core.Bool.{Bool, true, false, cond}
 use mathlib.Core.List.{List}
 use Prim.Native.Nat.{ℕ, _-_, _≤_, _<_}
 use native.Mathlib.Omega.{arith}
+use lib.Dec.{ltb}
 use borrow.Author.Tests.{lt-ltb, le-ltb, le-leb, lt-leb}
 use lib.ListN.{length, take, drop}
 use Rattle.text.specs.declared.Number.{Number}
@@ -13,8 +14,8 @@ use Rattle.text.specs.Numbers.{numberIn}
 use Rattle.text.proofs.Places.{part-length}
 use Rattle.script.specs.declared.words.Cursor.{Cursor}
 use Rattle.script.specs.Order.{Order, unreadable}
-use Rattle.script.specs.Reading.{Rest, onValue, number, limit, kind, noMore, matrixWord, tableWord}
-use Rattle.script.specs.Cursors.{onward, Took, Ends}
+use Rattle.script.specs.Reading.{Rest, onValue, number, numberOrZero, limit, kind, noMore, matrixWord, tableWord}
+use Rattle.script.specs.Cursors.{onward, Took, TookOrZero, Ends}
 
 -- ---- places
 
@@ -23,8 +24,16 @@ pub word-inside : {line : List ℕ} {at from to : ℕ} → at ≤ length line �
 word-inside h n = omega (arith, h, n .inside)
 
 -- a word is as long as its places say
-pub word-length : {line : List ℕ} {at from to : ℕ} → NextWord line at from to → length (headWord (drop at line)) ≡ to - from
+word-length : {line : List ℕ} {at from to : ℕ} → NextWord line at from to → length (headWord (drop at line)) ≡ to - from
 word-length {line} {at} {from} {to} n = ap length (sym (n .word)) ∙ part-length line at from to n
+
+-- whether there is a word, by its places
+module _ {line : List ℕ} {at from to : ℕ} (n : NextWord line at from to) where
+  pub some-word : from < to → ltb 0 (length (headWord (drop at line))) ≡ true
+  some-word h = lt-ltb 0 (length (headWord (drop at line))) (omega (arith, word-length n))
+
+  pub no-word : to ≤ from → ltb 0 (length (headWord (drop at line))) ≡ false
+  no-word h = le-ltb 0 (length (headWord (drop at line))) (omega (arith, word-length n))
 
 -- a test of a word is one of the part where it stands
 pub word-test : {line : List ℕ} {at from to : ℕ} {r b : Bool} (test : List ℕ → Bool) → NextWord line at from to
@@ -91,6 +100,17 @@ module _ {line : List ℕ} {c : Cursor} {v : ℕ} {rest : Cursor} (t : Took numb
   unfolding limit onward
   limit-not h = record { forward = t .forward; inside = t .inside; asks = λ f. t .asks _ ∙ simp (lt-leb v 255 h) (same-either (rest .readable) unreadable); kept = clash refl }
 
+-- ---- a number that may be left out: one that is there, and none
+
+module _ {line : List ℕ} {c : Cursor} {from to : ℕ} (n : NextWord line (c .at) from to) where
+  pub zero-word : from < to → {v : ℕ} {rest : Cursor} → Took number line c v rest → TookOrZero line c v rest
+  unfolding numberOrZero onward
+  zero-word h t = record { inside = t .inside; asks = λ f. rw (some-word n h) (t .asks f) }
+
+  pub zero-none : to ≤ from → c .at ≤ length line → TookOrZero line c 0 c
+  unfolding numberOrZero onward
+  zero-none h l = record { inside = l; asks = λ f. rw (no-word n h) }
+
 -- ---- the kind of a target, and the end of a line
 
 module _ (s : List ℕ) where
@@ -115,8 +135,8 @@ module _ {line : List ℕ} {c : Cursor} where
   module _ {from to : ℕ} (e : c .readable ≡ true) (n : NextWord line (c .at) from to) where
     pub ends-not : from < to → Ends line c false
     unfolding noMore onward
-    ends-not h = record { asks = λ o. rw (e, lt-ltb 0 (length (headWord (drop (c .at) line))) (omega (arith, word-length n))); kept = clash refl }
+    ends-not h = record { asks = λ o. rw (e, some-word n h); kept = clash refl }
 
     pub ends-here : to ≤ from → Ends line c true
     unfolding noMore onward
-    ends-here h = record { asks = λ o. rw (e, le-ltb 0 (length (headWord (drop (c .at) line))) (omega (arith, word-length n))); kept = λ t. e }
+    ends-here h = record { asks = λ o. rw (e, no-word n h); kept = λ t. e }

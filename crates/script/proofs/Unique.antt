@@ -37,7 +37,7 @@ callFor line (askOpenTable bytes entries g d a) = OpenTable (record { bytes = pa
 callFor line askReport = Report
 callFor line (askGate k kind a b) = Gate (record { k = k; kind = kind; a = a; b = b })
 callFor line (askOutput j to) = Output (record { j = j; line = to })
-callFor line (askEntry i value) = Entry (record { i = i; value = value })
+callFor line (askEntry i value constant) = Entry (record { i = i; value = value; constant = constant })
 callFor line (askLimits g d a) = Limits (record { gates = g; depth = d; ands = a })
 callFor line askSweep = Sweep
 callFor line (askAppend kind a b) = Append (record { kind = kind; a = a; b = b })

@@ -8,7 +8,7 @@ use Rattle.text.specs.Places.{tailWords}
 use Rattle.script.specs.declared.Part.{Part}
 use Rattle.script.specs.declared.words.Cursor.{Cursor}
 use Rattle.script.specs.Order.{Order, unreadable, bytesOf}
-use Rattle.script.specs.Reading.{Rest, hex, noMore}
+use Rattle.script.specs.Reading.{Rest, numberOrZero, hex, noMore}
 use Rattle.script.specs.Placed.{HexPart}
 
 -- what a line asks from a cursor on
@@ -31,6 +31,11 @@ pub record Took {A : Type 0} (word : (A → Rest) → Rest) (line : List ℕ) (c
   pub inside : rest .at ≤ length line
   pub asks : (f : A → Rest) → onward line c (word f) ≡ onward line rest (f value)
   pub kept : rest .readable ≡ true → (c .readable ≡ true) × (drop (rest .at) line ≡ tailWords (drop (c .at) line))
+
+-- a number that may be left out is read as a value, and the line goes on at the rest; one left out leaves the cursor where it is
+pub record TookOrZero (line : List ℕ) (c : Cursor) (value : ℕ) (rest : Cursor) : Type 0 where
+  pub inside : rest .at ≤ length line
+  pub asks : (f : ℕ → Rest) → onward line c (numberOrZero f) ≡ onward line rest (f value)
 
 -- a word is read as the bytes of a part, which stands between the two cursors
 pub record TookHex (line : List ℕ) (c : Cursor) (p : Part) (rest : Cursor) : Type 0 where

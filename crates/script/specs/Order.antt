@@ -7,7 +7,7 @@ use Rattle.script.specs.declared.Part.{Part}
 use Rattle.script.specs.declared.Call.{Call}
 use Rattle.script.specs.declared.Call.the-variants.{Silent, Unreadable, New, OpenMatrix, OpenTable, Report, Gate, Output, Entry, Limits, Sweep, Append, Store, Held, Show, Hint, Build, Late, Distance, Equations}
 
--- what a line asks; the arguments are those of the call, in the order in which they are typed
+-- what a line asks; the arguments are those of the call, in the order in which they are typed, and 0 for a constant left out
 pub data Order : Type 0 where
   silent : Order
   unreadable : Order
@@ -17,7 +17,7 @@ pub data Order : Type 0 where
   askReport : Order
   askGate : (k kind a b : ℕ) → Order
   askOutput : (j line : ℕ) → Order
-  askEntry : (i value : ℕ) → Order
+  askEntry : (i value constant : ℕ) → Order
   askLimits : (gates depth ands : ℕ) → Order
   askSweep : Order
   askAppend : (kind a b : ℕ) → Order
@@ -48,7 +48,7 @@ orderOf line (OpenTable o) = askOpenTable (bytesOf line (o .bytes)) (bytesOf lin
 orderOf line Report = askReport
 orderOf line (Gate e) = askGate (e .k) (e .kind) (e .a) (e .b)
 orderOf line (Output e) = askOutput (e .j) (e .line)
-orderOf line (Entry e) = askEntry (e .i) (e .value)
+orderOf line (Entry e) = askEntry (e .i) (e .value) (e .constant)
 orderOf line (Limits e) = askLimits (e .gates) (e .depth) (e .ands)
 orderOf line Sweep = askSweep
 orderOf line (Append e) = askAppend (e .kind) (e .a) (e .b)

@@ -23,6 +23,10 @@ onValue Not f = unreadable
 unfoldable pub number : (ℕ → Rest) → Rest
 number f s = onValue (numberIn (headWord s)) (λ (v : ℕ). f v (tailWords s))
 
+-- a number that may be left out at the end of a line, and is 0 then
+unfoldable pub numberOrZero : (ℕ → Rest) → Rest
+numberOrZero f s = cond (ltb 0 (length (headWord s))) (number f s) (f 0 s)
+
 -- a number that a limit holds, 0 to 255
 unfoldable pub limit : (ℕ → Rest) → Rest
 limit f = number (λ (v : ℕ) (s : List ℕ). cond (leb v 255) (f v s) unreadable)
@@ -73,9 +77,9 @@ gateRest = number (λ k. number (λ t. number (λ a. number (λ b. noMore (askGa
 abbrev pub outputRest : Rest
 outputRest = number (λ j. number (λ line. noMore (askOutput j line)))
 
--- `entry I VALUE`
+-- `entry I VALUE` or `entry I VALUE CONSTANT`
 abbrev pub entryRest : Rest
-entryRest = number (λ i. number (λ value. noMore (askEntry i value)))
+entryRest = number (λ i. number (λ value. numberOrZero (λ constant. noMore (askEntry i value constant))))
 
 -- `limits G D A`
 abbrev pub limitsRest : Rest

@@ -17,6 +17,7 @@ use crate::words::is_done;
 use crate::words::kind_at;
 use crate::words::limit_at;
 use crate::words::number_at;
+use crate::words::number_or_zero;
 ghost use mathlib.Core.Path.{_≡_};
 ghost use mathlib.Core.Bool.{Bool};
 ghost use Rattle.script.specs.Order.{orderOf};
@@ -93,18 +94,20 @@ pub(crate) fn read_output(line: &[u8], here: Cursor) -> Call
     finish(line, to.rest, Call::Output(edit))
 }
 
-// `entry I VALUE`.
+// `entry I VALUE` or `entry I VALUE CONSTANT`.
 pub(crate) fn read_entry(line: &[u8], here: Cursor) -> Call
     requires { ⌜ Second (now line) here ⌝ }
     ensures { λ r. ⌜ Means (now (line .entry)) r (onward (now (line .entry)) here entryRest) ⌝ }
 {
     let i = number_at(line, here);
     let to = number_at(line, i.rest);
+    let constant = number_or_zero(line, to.rest);
     let edit = EntryEdit {
         i: i.value,
         value: to.value,
+        constant: constant.value,
     };
-    finish(line, to.rest, Call::Entry(edit))
+    finish(line, constant.rest, Call::Entry(edit))
 }
 
 // `limits G D A`.

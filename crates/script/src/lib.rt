@@ -36,10 +36,11 @@ pub struct OutputEdit {
     pub line: usize,
 }
 
-// `entry I VALUE`.
+// `entry I VALUE` or `entry I VALUE CONSTANT`; a constant left out is 0.
 pub struct EntryEdit {
     pub i: usize,
     pub value: usize,
+    pub constant: usize,
 }
 
 // `limits G D A`.

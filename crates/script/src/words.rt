@@ -6,7 +6,7 @@ ghost use mathlib.Core.Path.{_≡_};
 ghost use Prim.Native.Nat.{_≤_};
 ghost use lib.ListN.{length};
 ghost use Rattle.script.specs.Reading.{number, limit, kind, isPairs};
-ghost use Rattle.script.specs.Cursors.{Within, Took, TookHex, Ends};
+ghost use Rattle.script.specs.Cursors.{Within, Took, TookOrZero, TookHex, Ends};
 
 // The rest of a line, from `at` on.
 pub(crate) struct Cursor {
@@ -67,6 +67,21 @@ pub(crate) fn number_at(line: &[u8], here: Cursor) -> Numbered
     Numbered {
         value: v as usize,
         rest,
+    }
+}
+
+// A number that may be left out at the end of a line, and is 0 then.
+pub(crate) fn number_or_zero(line: &[u8], here: Cursor) -> Numbered
+    requires { ⌜ here .at ≤ length (now line) ⌝ }
+    ensures { λ r. ⌜ TookOrZero (now (line .entry)) here (r .value) (r .rest) ⌝ }
+{
+    let word = text::next_word(line, here.at);
+    if word.from < word.to {
+        return number_at(line, here);
+    }
+    Numbered {
+        value: 0,
+        rest: here,
     }
 }
 

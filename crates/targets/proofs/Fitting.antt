@@ -6,15 +6,16 @@ use Prim.Native.Nat.{ℕ, zero, suc, _≤_, _<_, _+_, _*_, _%_, _^_}
 use native.Mathlib.Omega.{arith}
 use native.Mathlib.Numerals.{add-one}
 use native.Mathlib.Nat.{one-mul}
-use borrow.Author.Tests.{lt-ltb, le-leb, lt-leb, eq-eqb, ne-eqb, eqb-true}
-use lib.Dec.{leb, ltb, eqb, lit<}
+use borrow.Author.Tests.{lt-ltb, le-ltb, le-leb, lt-leb, eq-eqb, ne-eqb}
+use lib.Dec.{ltb, eqb, lit<}
 use lib.ListN.{length, getD, set, drop, drop-of-length-le}
 use lib.Pow.{pow-mono, shl-exact}
 use lib.Seq.{drop-cons}
-use Rattle.circuit.specs.Sizes.{mostInputs, mostOutputs, mostValues}
 use Rattle.circuit.specs.Rules.{allOf}
+use Rattle.circuit.specs.Rows.{row}
 use Rattle.circuit.proofs.Shapes.{both}
-use Rattle.targets.specs.Target.{Target, matrix, table, targetOf, isMatrix, targetBytes, rowFits, valueFits, targetFits}
+use Rattle.targets.specs.Target.{rowFits, entryFits, targetFits, maskBytes, rowsIn, brought, broughtFits}
+use Rattle.targets.proofs.Bytes.{rows-many}
 
 -- `1 << n`
 pub shift-is : (n : ℕ) → n < 64 → (1 * 2 ^ n) % 2 ^ 64 ≡ 2 ^ n
@@ -35,24 +36,44 @@ module _ (n x : ℕ) where
     pub power-past : false ≡ eqb x (2 ^ n)
     power-past = sym (ne-eqb x (2 ^ n) (λ e. omega (arith, pow-mono {i = 64} {j = n} h)))
 
-pub row-none : (n row : ℕ) → row ≡ 0 → false ≡ rowFits n row
-unfolding rowFits
-row-none n row e = rw e
+-- a test and one that holds, or does not
+and-true : (t : Bool) → (t && true) ≡ t
+and-true true = refl
+and-true false = refl
 
-pub row-some : (n row : ℕ) → (row ≡ 0 → ⊥) → ltb row (2 ^ n) ≡ rowFits n row
-unfolding rowFits
-row-some n row z = sym (ap (λ (t : Bool). t && ltb row (2 ^ n)) (lt-ltb 0 row (omega arith)))
+and-false : (t : Bool) → (t && false) ≡ false
+and-false true = refl
+and-false false = refl
 
--- every byte from i on
-module _ (p : ℕ → Bool) (l : List ℕ) (i : ℕ) where
-  all-at : i < length l → allOf p (drop i l) ≡ p (getD l i 0) && allOf p (drop (i + 1) l)
+-- a row, by its constant
+module _ (n mask constant : ℕ) where
+  pub row-bit : constant < 2 → ltb mask (2 ^ n) ≡ rowFits n (row mask constant)
+  unfolding rowFits
+  row-bit h = sym (ap (λ (t : Bool). ltb mask (2 ^ n) && t) (lt-ltb constant 2 h) ∙ and-true (ltb mask (2 ^ n)))
+
+  pub row-no-bit : 2 ≤ constant → false ≡ rowFits n (row mask constant)
+  unfolding rowFits
+  row-no-bit h = sym (ap (λ (t : Bool). ltb mask (2 ^ n) && t) (le-ltb constant 2 h) ∙ and-false (ltb mask (2 ^ n)))
+
+-- an entry, by the constant beside it
+module _ (m value constant : ℕ) where
+  pub entry-alone : constant ≡ 0 → ltb value (2 ^ m) ≡ (entryFits m value && eqb constant 0)
+  unfolding entryFits
+  entry-alone h = sym (ap (λ (t : Bool). ltb value (2 ^ m) && t) (eq-eqb constant 0 h) ∙ and-true (ltb value (2 ^ m)))
+
+  pub entry-beside : (constant ≡ 0 → ⊥) → false ≡ (entryFits m value && eqb constant 0)
+  entry-beside h = sym (ap (λ (t : Bool). entryFits m value && t) (ne-eqb constant 0 h) ∙ and-false (entryFits m value))
+
+-- each from i on; one that is not there is d
+module _ {A : Type 0} (d : A) (p : A → Bool) (l : List A) (i : ℕ) where
+  all-at : i < length l → allOf p (drop i l) ≡ p (getD l i d) && allOf p (drop (i + 1) l)
   unfolding allOf
-  all-at h = ap (allOf p) (drop-cons l i 0 h) ∙ ap (λ (k : ℕ). p (getD l i 0) && allOf p (drop k l)) (sym (add-one i))
+  all-at h = ap (allOf p) (drop-cons l i d h) ∙ ap (λ (k : ℕ). p (getD l i d) && allOf p (drop k l)) (sym (add-one i))
 
-  pub all-stop : i < length l → p (getD l i 0) ≡ false → allOf p (drop i l) ≡ false
+  pub all-stop : i < length l → p (getD l i d) ≡ false → allOf p (drop i l) ≡ false
   all-stop h e = all-at h ∙ ap (λ (t : Bool). t && allOf p (drop (i + 1) l)) e
 
-  pub all-next : i < length l → p (getD l i 0) ≡ true → allOf p (drop i l) ≡ allOf p (drop (i + 1) l)
+  pub all-next : i < length l → p (getD l i d) ≡ true → allOf p (drop i l) ≡ allOf p (drop (i + 1) l)
   all-next h e = all-at h ∙ ap (λ (t : Bool). t && allOf p (drop (i + 1) l)) e
 
   pub all-end : length l ≤ i → allOf p (drop i l) ≡ true
@@ -61,49 +82,39 @@ module _ (p : ℕ → Bool) (l : List ℕ) (i : ℕ) where
 
 -- the rule of a matrix
 module _ (only : Bool) (n m : ℕ) (l : List ℕ) (e : only ≡ true) where
-  pub rows-fit : length l ≡ m → allOf (valueFits only n m) l ≡ targetFits n m (targetOf only l)
-  unfolding targetFits
-  rows-fit h = rw e (simp (eq-eqb (length l) m h))
+  pub rows-fit : length l ≡ m + m → allOf (rowFits n) (rowsIn n m l) ≡ broughtFits n m (brought only l)
+  unfolding broughtFits targetFits
+  rows-fit h = rw e (simp (eq-eqb (length l) (m * maskBytes n + m) (omega arith), eq-eqb (length (rowsIn n m l)) m (rows-many n m l)))
 
-  pub rows-unfit : (length l ≡ m → ⊥) → false ≡ targetFits n m (targetOf only l)
-  unfolding targetFits
-  rows-unfit h = rw e (simp (ne-eqb (length l) m h))
+  pub rows-unfit : (length l ≡ m + m → ⊥) → false ≡ broughtFits n m (brought only l)
+  unfolding broughtFits
+  rows-unfit h = rw e (simp (ne-eqb (length l) (m * maskBytes n + m) (λ z. h (omega arith))))
 
 -- the rule of a table
 module _ (only : Bool) (n m : ℕ) (l : List ℕ) (e : only ≡ false) where
-  pub too-wide : 8 < m → false ≡ targetFits n m (targetOf only l)
-  unfolding targetFits
+  pub too-wide : 8 < m → false ≡ broughtFits n m (brought only l)
+  unfolding broughtFits targetFits
   too-wide h = rw e (simp (lt-leb m 8 h))
 
   module _ (h : m ≤ 8) where
-    pub entries-fit : eqb (length l) (2 ^ n) ≡ true → allOf (valueFits only n m) l ≡ targetFits n m (targetOf only l)
-    unfolding targetFits
+    pub entries-fit : eqb (length l) (2 ^ n) ≡ true → allOf (entryFits m) l ≡ broughtFits n m (brought only l)
+    unfolding broughtFits targetFits
     entries-fit k = rw e (simp (le-leb m 8 h, k))
 
-    pub entries-unfit : eqb (length l) (2 ^ n) ≡ false → false ≡ targetFits n m (targetOf only l)
-    unfolding targetFits
+    pub entries-unfit : eqb (length l) (2 ^ n) ≡ false → false ≡ broughtFits n m (brought only l)
+    unfolding broughtFits targetFits
     entries-unfit k = rw e (simp (le-leb m 8 h, k))
 
--- a byte changed for one that passes
-pub all-set : (p : ℕ → Bool) (l : List ℕ) (i v : ℕ) → allOf p l ≡ true → p v ≡ true → allOf p (set l i v) ≡ true
+-- one changed for one that passes
+pub all-set : {A : Type 0} (p : A → Bool) (l : List A) (i : ℕ) (v : A) → allOf p l ≡ true → p v ≡ true → allOf p (set l i v) ≡ true
 unfolding allOf
 all-set p [] i v h q = refl
 all-set p (x ∷ l) zero v h q = λ k. q k && both (p x) h .1 k
 all-set p (x ∷ l) (suc i) v h q = λ k. both (p x) h .0 k && all-set p l i v (both (p x) h .1) q k
 
--- a target by its kind and its bytes
-pub kind-of : (only : Bool) (bytes : List ℕ) → isMatrix (targetOf only bytes) ≡ only
-kind-of true bytes = refl
-kind-of false bytes = refl
-
-pub bytes-of : (only : Bool) (bytes : List ℕ) → targetBytes (targetOf only bytes) ≡ bytes
-bytes-of true bytes = refl
-bytes-of false bytes = refl
-
--- a target that keeps its rule has at most a byte for each input value
-pub target-short : (n m : ℕ) (t : Target) → n ≤ mostInputs → m ≤ mostOutputs → targetFits n m t ≡ true → length (targetBytes t) ≤ mostValues
-unfolding targetFits
-target-short n m (matrix rows) n8 m32 f = omega (arith, eqb-true (length rows) m (both (eqb (length rows) m) f .0))
-target-short n m (table entries) n8 m32 f =
-    let k = both (eqb (length entries) (2 ^ n)) (both (leb m 8) f .1) in
-    omega (arith, eqb-true (length entries) (2 ^ n) (k .0), pow-mono {i = n} {j = 8} n8)
+-- each that is there passes
+pub all-there : {A : Type 0} (d : A) (p : A → Bool) (l : List A) (j : ℕ) → allOf p l ≡ true → j < length l → p (getD l j d) ≡ true
+unfolding allOf
+all-there d p [] j e h = absurd (omega arith)
+all-there d p (x ∷ l) zero e h = both (p x) e .0
+all-there d p (x ∷ l) (suc j) e h = all-there d p l j (both (p x) e .1) (omega arith)

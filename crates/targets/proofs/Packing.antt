@@ -7,14 +7,12 @@ use native.Mathlib.Omega.{arith}
 use native.Mathlib.Numerals.{add-one}
 use native.Mathlib.Nat.{add-comm, pow-suc, mod-eq-of-lt, add-mul-mod-self-right, eq-or-lt-of-le}
 use lib.Dec.{eqb}
-use lib.ListN.{getD, set}
+use lib.ListN.{getD}
 use lib.Pow.{pow-add, pow-mono, high, field}
 use borrow.Author.Tests.{eq-eqb, ne-eqb}
 use Rattle.circuit.specs.Gate.{Kind, bit, wordsOf, noWords}
-use Rattle.circuit.specs.Lines.{upto, inputWords, padded}
-use Rattle.circuit.proofs.Upto.{upto-suc, upto-length}
-use Rattle.circuit.proofs.Padding.{padded-put}
-use Rattle.targets.specs.Wanted.{packed, rowWords}
+use Rattle.circuit.specs.Lines.{inputWords}
+use Rattle.targets.specs.Wanted.{packed, maskWords}
 
 -- ---- numbers packed from bits
 
@@ -68,21 +66,16 @@ packed-before f b w h l e =
     let front = packed-front (λ (i : ℕ). f (b - 1 + i)) (64 - b) in
     omega (arith, ap (packed (λ (i : ℕ). f (b - 1 + i))) k, front, ap f z, rest)
 
--- ---- what a row wants
+-- ---- what a mask sums
 
-module _ (row i : ℕ) where
-  row-suc : rowWords (i + 1) row ≡ cond (eqb (bit i row) 1) (wordsOf Kind.XOR (rowWords i row) (getD inputWords i noWords)) (rowWords i row)
-  row-suc = ap (λ (k : ℕ). rowWords k row) (add-one i)
+module _ (mask i : ℕ) where
+  mask-suc : maskWords (i + 1) mask ≡ cond (eqb (bit i mask) 1) (wordsOf Kind.XOR (maskWords i mask) (getD inputWords i noWords)) (maskWords i mask)
+  mask-suc = ap (λ (k : ℕ). maskWords k mask) (add-one i)
 
-  pub row-with : bit i row ≡ 1 → wordsOf Kind.XOR (rowWords i row) (getD inputWords i noWords) ≡ rowWords (i + 1) row
-  row-with e =
-      sym (row-suc ∙ ap (λ (t : Bool). cond t (wordsOf Kind.XOR (rowWords i row) (getD inputWords i noWords)) (rowWords i row)) (eq-eqb (bit i row) 1 e))
+  pub mask-with : bit i mask ≡ 1 → wordsOf Kind.XOR (maskWords i mask) (getD inputWords i noWords) ≡ maskWords (i + 1) mask
+  mask-with e =
+      sym (mask-suc ∙ ap (λ (t : Bool). cond t (wordsOf Kind.XOR (maskWords i mask) (getD inputWords i noWords)) (maskWords i mask)) (eq-eqb (bit i mask) 1 e))
 
-  pub row-without : (bit i row ≡ 1 → ⊥) → rowWords i row ≡ rowWords (i + 1) row
-  row-without e =
-      sym (row-suc ∙ ap (λ (t : Bool). cond t (wordsOf Kind.XOR (rowWords i row) (getD inputWords i noWords)) (rowWords i row)) (ne-eqb (bit i row) 1 e))
-
--- ---- an array filled from the front
-
-pub upto-put : {A : Type 0} (f : ℕ → A) (d : A) (cap j : ℕ) → j < cap → set (padded cap d (upto f j)) j (f j) ≡ padded cap d (upto f (j + 1))
-upto-put {A} f d cap j h = padded-put cap d (upto f j) j (f j) (sym (upto-length f j)) h ∙ ap (padded cap d) (sym (upto-suc f j))
+  pub mask-without : (bit i mask ≡ 1 → ⊥) → maskWords i mask ≡ maskWords (i + 1) mask
+  mask-without e =
+      sym (mask-suc ∙ ap (λ (t : Bool). cond t (wordsOf Kind.XOR (maskWords i mask) (getD inputWords i noWords)) (maskWords i mask)) (ne-eqb (bit i mask) 1 e))

@@ -1,9 +1,11 @@
 // The target's rules: of one row or entry, and of the whole.
 ghost use mathlib.Core.Path.{_≡_};
-ghost use Prim.Native.Nat.{_^_};
+ghost use Prim.Native.Nat.{_+_, _^_};
 ghost use lib.Dec.{ltb, eqb};
+ghost use lib.ListN.{length};
+ghost use Rattle.circuit.specs.Rows.{row};
 ghost use Rattle.circuit.specs.Rules.{allOf};
-ghost use Rattle.targets.specs.Target.{rowFits, valueFits, targetFits, targetOf};
+ghost use Rattle.targets.specs.Target.{rowFits, entryFits, valueFits, rowsIn, brought, broughtFits};
 use circuit::wide;
 
 // x is below 2^n; from n = 64 on every number is.
@@ -20,34 +22,52 @@ fn is_power(n: usize, x: usize) -> bool
     if n < 64 { x == 1usize << n } else { false }
 }
 
-// A row of a matrix over n inputs.
-fn row_fits(n: usize, row: usize) -> bool
-    ensures { λ r. ⌜ r ≡ rowFits n row ⌝ }
+// A row over n inputs: its mask is of those, its constant a bit. A mask of none is a constant output.
+fn row_fits(n: usize, mask: usize, constant: usize) -> bool
+    ensures { λ r. ⌜ r ≡ rowFits n (row mask constant) ⌝ }
 {
-    if row == 0 {
-        return false;
+    if constant < 2 {
+        is_below(n, mask)
+    } else {
+        false
     }
-    is_below(n, row)
 }
 
-// A row over n inputs or an entry for m outputs, by the target's kind.
-pub fn value_fits(only: bool, n: usize, m: usize, value: usize) -> bool
-    ensures { λ r. ⌜ r ≡ valueFits only n m value ⌝ }
+// What an edit brings, by the target's kind: a row over n inputs; or an entry for m outputs, beside which the constant is 0.
+pub fn value_fits(only: bool, n: usize, m: usize, value: usize, constant: usize) -> bool
+    ensures { λ r. ⌜ r ≡ valueFits only n m value constant ⌝ }
 {
     if only {
-        row_fits(n, value)
-    } else {
+        row_fits(n, value, constant)
+    } else if constant == 0 {
         is_below(m, value)
+    } else {
+        false
     }
 }
 
-// Every byte of the target keeps its rule.
-fn all_fit(only: bool, n: usize, m: usize, bytes: &[u8]) -> bool
-    ensures { λ r. ⌜ r ≡ allOf (valueFits only n m) (now (bytes .entry)) ⌝ }
+// Every row of a matrix keeps its rule: m masks, and then m constants.
+fn rows_fit(n: usize, m: usize, bytes: &[u8]) -> bool
+    requires { ⌜ length (now bytes) ≡ m + m ⌝ }
+    ensures { λ r. ⌜ r ≡ allOf (rowFits n) (rowsIn n m (now (bytes .entry))) ⌝ }
+{
+    let mut j: usize = 0;
+    while j < m {
+        if !row_fits(n, wide(bytes[j]), wide(bytes[m + j])) {
+            return false;
+        }
+        j += 1;
+    }
+    true
+}
+
+// Every entry of a table keeps its rule.
+fn entries_fit(m: usize, bytes: &[u8]) -> bool
+    ensures { λ r. ⌜ r ≡ allOf (entryFits m) (now (bytes .entry)) ⌝ }
 {
     let mut i: usize = 0;
     while i < bytes.len() {
-        if !value_fits(only, n, m, wide(bytes[i])) {
+        if !is_below(m, wide(bytes[i])) {
             return false;
         }
         i += 1;
@@ -55,20 +75,22 @@ fn all_fit(only: bool, n: usize, m: usize, bytes: &[u8]) -> bool
     true
 }
 
-// The target's rule for n inputs and m outputs: its length, and each of its bytes.
+// The target's rule for n inputs and m outputs: its length, and each of its rows or entries.
 pub fn target_fits(only: bool, n: usize, m: usize, bytes: &[u8]) -> bool
-    ensures { λ r. ⌜ r ≡ targetFits n m (targetOf only (now (bytes .entry))) ⌝ }
+    ensures { λ r. ⌜ r ≡ broughtFits n m (brought only (now (bytes .entry))) ⌝ }
 {
     if only {
-        if bytes.len() == m {
-            all_fit(only, n, m, bytes)
+        if bytes.len() < m {
+            false
+        } else if bytes.len() - m == m {
+            rows_fit(n, m, bytes)
         } else {
             false
         }
     } else if 8 < m {
         false
     } else if is_power(n, bytes.len()) {
-        all_fit(only, n, m, bytes)
+        entries_fit(m, bytes)
     } else {
         false
     }

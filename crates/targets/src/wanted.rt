@@ -5,8 +5,9 @@ ghost use lib.ListN.{getD};
 ghost use Rattle.circuit.specs.Sizes.{mostInputs, mostOutputs};
 ghost use Rattle.circuit.specs.Gate.{bit, noWords};
 ghost use Rattle.circuit.specs.Lines.{inputWords};
-ghost use Rattle.targets.specs.Target.{targetOf};
-ghost use Rattle.targets.specs.Wanted.{packed, rowWords, columnWords, wantedWords, wantedOf};
+ghost use Rattle.circuit.specs.Rows.{row};
+ghost use Rattle.targets.specs.Target.{targetBy};
+ghost use Rattle.targets.specs.Wanted.{packed, maskWords, rowWords, columnWords, wantedWords, wantedIn};
 use circuit::INPUTS;
 use circuit::NO_WORDS;
 use circuit::OUTPUTS;
@@ -74,19 +75,31 @@ pub fn input_words(i: usize) -> Words
     if i < INPUTS { INPUT_WORDS[i] } else { NO_WORDS }
 }
 
-// What a row wants: the sum of the words of its inputs.
-fn row_words(row: u8) -> Words
-    ensures { λ r. ⌜ r ≡ rowWords mostInputs row ⌝ }
+// The sum of the words of the inputs that a mask has.
+fn mask_words(mask: u8) -> Words
+    ensures { λ r. ⌜ r ≡ maskWords mostInputs mask ⌝ }
 {
     let mut w = NO_WORDS;
     let mut i: usize = 0;
     while i < INPUTS {
-        if (row >> i) % 2 == 1 {
+        if (mask >> i) % 2 == 1 {
             w = gate::eval_gate(0, w, input_words(i));
         }
         i += 1;
     }
     w
+}
+
+// What a row wants: that sum, inverted where its constant is 1.
+fn row_words(mask: u8, constant: u8) -> Words
+    ensures { λ r. ⌜ r ≡ rowWords (row mask constant) ⌝ }
+{
+    let w = mask_words(mask);
+    if constant == 1 {
+        gate::eval_gate(6, w, w)
+    } else {
+        w
+    }
 }
 
 // Bit j of 64 entries of a table, from one on, in a word. The last comes first, so that each turn doubles the word: a sum
@@ -117,13 +130,13 @@ fn column_words(table: &[u8; VALUES], j: usize) -> Words
     }
 }
 
-// What the target wants of output j.
-fn wanted_by(only: bool, target: &[u8; VALUES], j: usize) -> Words
-    requires { ⌜ j < mostOutputs ⌝ }
-    ensures { λ r. ⌜ r ≡ wantedWords (targetOf only (now (target .entry))) j ⌝ }
+// What the target wants of output j of m: the constants of a matrix stand behind its masks.
+fn wanted_by(only: bool, target: &[u8; VALUES], m: usize, j: usize) -> Words
+    requires { ⌜ (m ≤ mostOutputs) × (j < m) ⌝ }
+    ensures { λ r. ⌜ r ≡ wantedWords (targetBy only mostInputs m (now (target .entry))) j ⌝ }
 {
     if only {
-        row_words(target[j])
+        row_words(target[j], target[m + j])
     } else {
         column_words(target, j)
     }
@@ -131,13 +144,13 @@ fn wanted_by(only: bool, target: &[u8; VALUES], j: usize) -> Words
 
 // What the target wants of each of m outputs, at most as many as there may be, in words.
 pub fn wanted_words(only: bool, target: &[u8; VALUES], m: usize) -> [Words; OUTPUTS]
-    ensures { λ r. ⌜ r ≡ wantedOf (targetOf only (now (target .entry))) m ⌝ }
+    ensures { λ r. ⌜ r ≡ wantedIn only (now (target .entry)) m ⌝ }
 {
     let count = if m < OUTPUTS { m } else { OUTPUTS };
     let mut wanted = [NO_WORDS; OUTPUTS];
     let mut j: usize = 0;
     while j < count {
-        wanted[j] = wanted_by(only, target, j);
+        wanted[j] = wanted_by(only, target, count, j);
         j += 1;
     }
     wanted

@@ -1,73 +1,36 @@
--- `targets::wanted::row_words` meets its contract. The invariant: the words of the inputs so far are summed. Assumes nothing.
+-- `targets::wanted::row_words` meets its contract. Assumes nothing.
 use borrow.Author.Needs.{needs}
-use native.Mathlib.Omega.{arith}
-use mathlib.Core.Path.{_≡_, refl, ap, ap₂, _∙_}
-use mathlib.Core.Logic.{⊎-elim}
-use Prim.Native.Nat.{_≤_, _-_}
-use Rattle.circuit.specs.Gate.{Kind, wordsOf}
+use mathlib.Core.Path.{_≡_, ap, _∙_, sym}
+use mathlib.Core.Bool.{Bool, cond}
+use borrow.Author.Tests.{eq-eqb, ne-eqb}
+use Rattle.circuit.specs.declared.Words.{Words}
 use Rattle.circuit.specs.Sizes.{mostInputs}
-use Rattle.targets.specs.Wanted.{rowWords}
-use Rattle.targets.proofs.Packing.{row-with, row-without}
+use Rattle.circuit.specs.Gate.{Kind, wordsOf}
+use Rattle.targets.specs.Wanted.{maskWords, rowWords}
 use Rattle.targets.proofs.wanted.row_words.Statement.{statement}
 use Rattle.targets.proofs.wanted.row_words.Tie as tie
 
-abbrev Inv-loop : tie.InvT-loop
-Inv-loop row w₀ i₀ w i = (i ≤ mostInputs) × (w ≡ rowWords i row)
+mask-words-requires : tie.Need-mask-words-requires
+mask-words-requires c κs = search needs
 
-abbrev μ-loop : tie.MeasureT-loop
-μ-loop row w₀ i₀ w i = mostInputs - i
-
-loop-holds : tie.Need-loop-holds Inv-loop μ-loop
-loop-holds c = (search needs, refl)
-
-cast-if1 : tie.Need-cast-if1 Inv-loop μ-loop
-cast-if1 c = search needs
-
-shr-if1 : tie.Need-shr-if1 Inv-loop μ-loop
-shr-if1 c = search needs
-
-input-words-requires : tie.Need-input-words-requires Inv-loop μ-loop
-input-words-requires c κs = search needs
-
-eval-gate-requires : tie.Need-eval-gate-requires Inv-loop μ-loop
+eval-gate-requires : tie.Need-eval-gate-requires
 eval-gate-requires c κs = search needs
 
-add-i : tie.Need-add-i Inv-loop μ-loop
-add-i c = search needs
-
-loop-less : tie.Need-loop-less Inv-loop μ-loop
-loop-less c = search needs
-
-loop-again : tie.Need-loop-again Inv-loop μ-loop
-loop-again c =
-    let h = c .before .before in
-    let row = h .before .args .row in
-    let i = h .loop .i in (
-      search needs,
-      ⊎-elim
-          (λ w. w .3 ∙ w .2 .ensures ∙ ap₂ (wordsOf Kind.XOR) (h .loop .inv .1) (w .1 .ensures) ∙ row-with row i (w .0 .taken))
-          (λ w. w .1 ∙ h .loop .inv .1 ∙ row-without row i (w .0 .left))
-          (c .if1 .came),
-    )
-
-returns : tie.Need-returns Inv-loop μ-loop
+returns : tie.Need-returns
+unfolding rowWords
 returns c =
-    let h = c .before in
-    let e : h .loop .i ≡ mostInputs = omega arith in
-    h .loop .inv .1 ∙ ap (λ k. rowWords k (h .before .args .row)) e
+    let k = c .before .before in
+    let a = k .before .args in
+    c .eval-gate .ensures ∙ ap (λ (w : Words). wordsOf Kind.NOT w w) (k .mask-words .ensures)
+    ∙ sym (ap (λ (t : Bool). let w = maskWords mostInputs (a .mask) in cond t (wordsOf Kind.NOT w w) w) (eq-eqb (a .constant) 1 (c .before .if1 .taken)))
+
+returns-2 : tie.Need-returns-2
+unfolding rowWords
+returns-2 c =
+    let k = c .before in
+    let a = k .before .args in
+    k .mask-words .ensures
+    ∙ sym (ap (λ (t : Bool). let w = maskWords mostInputs (a .mask) in cond t (wordsOf Kind.NOT w w) w) (ne-eqb (a .constant) 1 (c .if1 .left)))
 
 pub row-words-spec : {M : Type 1} → statement M
-row-words-spec =
-    tie.close
-    (tie.spec
-    Inv-loop
-    μ-loop
-    loop-holds
-    cast-if1
-    shr-if1
-    input-words-requires
-    eval-gate-requires
-    add-i
-    loop-less
-    loop-again
-    returns)
+row-words-spec = tie.close (tie.spec mask-words-requires eval-gate-requires returns returns-2)

@@ -8,21 +8,21 @@ use mathlib.Core.List.{List}
 use Prim.Native.Nat.{ℕ, _≤_, _-_, min}
 use lib.ListN.{set}
 use Rattle.circuit.specs.declared.Words.{Words}
-use Rattle.circuit.specs.Sizes.{mostOutputs}
+use Rattle.circuit.specs.Sizes.{mostInputs, mostOutputs}
 use Rattle.circuit.specs.Gate.{noWords}
 use Rattle.circuit.specs.Lines.{upto, padded}
-use Rattle.targets.specs.Wanted.{wantedWords, wantedOf}
-use Rattle.targets.specs.Target.{targetOf}
-use Rattle.targets.proofs.Packing.{upto-put}
+use Rattle.circuit.proofs.Upto.{upto-put}
+use Rattle.targets.specs.Wanted.{wantedWords, wantedOf, wantedIn}
+use Rattle.targets.specs.Target.{targetBy}
 use Rattle.targets.proofs.wanted.wanted_words.Statement.{statement}
 use Rattle.targets.proofs.wanted.wanted_words.Tie as tie
 
-abbrev want : Bool → List ℕ → ℕ → Words
-want only bytes = wantedWords (targetOf only bytes)
+abbrev want : Bool → List ℕ → ℕ → ℕ → Words
+want only bytes m = wantedWords (targetBy only mostInputs m bytes)
 
 abbrev Inv-loop : tie.InvT-loop
 Inv-loop only target m count wanted₀ j₀ wanted j =
-    (j ≤ count) × (count ≡ min m mostOutputs) × (wanted ≡ padded mostOutputs noWords (upto (want only target) j))
+    (j ≤ count) × (count ≡ min m mostOutputs) × (wanted ≡ padded mostOutputs noWords (upto (want only target count) j))
 
 abbrev μ-loop : tie.MeasureT-loop
 μ-loop only target m count wanted₀ j₀ wanted j = count - j
@@ -58,16 +58,17 @@ loop-again c =
       search needs,
       h .loop .inv .1,
       ap₂ (λ (l : List Words) (w : Words). set l j w) (h .loop .inv .2) (c .wanted-by .ensures)
-          ∙ upto-put (want (a .only) (a .target .now)) noWords mostOutputs j (omega arith),
+          ∙ upto-put mostOutputs noWords (want (a .only) (a .target .now) (h .before .if1 .count)) j _ refl (omega arith),
     )
 
 returns : tie.Need-returns Inv-loop μ-loop
-unfolding wantedOf
+unfolding wantedIn wantedOf
 returns c =
     let h = c .before in
     let a = h .before .before .args in
-    let e : h .loop .j ≡ min (a .m) mostOutputs = omega arith in
-    h .loop .inv .2 ∙ ap (λ (j : ℕ). padded mostOutputs noWords (upto (want (a .only) (a .target .now)) j)) e
+    let k = min (a .m) mostOutputs in
+    let e : h .loop .j ≡ min k mostOutputs = omega arith in
+    h .loop .inv .2 ∙ ap₂ (λ (q j : ℕ). padded mostOutputs noWords (upto (want (a .only) (a .target .now) q) j)) (h .loop .inv .1) e
 
 pub wanted-words-spec : {M : Type 1} → statement M
 wanted-words-spec =
