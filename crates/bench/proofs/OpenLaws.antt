@@ -22,9 +22,9 @@ use Rattle.stored.specs.Stored.{listingIn}
 use Rattle.stored.specs.Reading.{readAnswer, readingOf}
 use Rattle.stored.proofs.Round.{listing-accepted}
 use Rattle.stored.proofs.Restoring.{read-answer, read-circuit}
-use Rattle.targets.specs.Target.{Target, isMatrix, targetBytes, targetFits, targetOf}
-use Rattle.targets.specs.Wanted.{wantedOf}
-use Rattle.targets.proofs.Fitting.{kind-of, bytes-of, target-short}
+use Rattle.targets.specs.Target.{Target, isMatrix, targetBytes, targetFits, Brought, brought, targetIn, broughtFits}
+use Rattle.targets.specs.Wanted.{wantedIn}
+use Rattle.targets.proofs.Bytes.{kind-by, Bringing, brings, target-short}
 use Rattle.targets.proofs.Wanting.{wanted-padded}
 use Rattle.bench.specs.declared.Bench.{Bench}
 use Rattle.bench.specs.declared.Opened.{Opened}
@@ -38,18 +38,18 @@ use Rattle.bench.proofs.Standing.{examined-full}
 
 -- as the code places it
 pub placed-by : (c : Circuit) (only : Bool) (bytes T : List ℕ) (W : List Words) (l : Limits) → T ≡ padded mostValues 0 bytes
-    → W ≡ wantedOf (targetOf only T) (c .m) → examined (unexamined true c only T W l) ≡ placedOf c only bytes l
+    → W ≡ wantedIn only T (c .m) → examined (unexamined true c only T W l) ≡ placedOf c only bytes l
 unfolding placedOf
 placed-by c only bytes T W l e f =
-    let w = f ∙ ap (λ (x : List ℕ). wantedOf (targetOf only x) (c .m)) e in
+    let w = f ∙ ap (λ (x : List ℕ). wantedIn only x (c .m)) e in
     λ i. examined (unexamined true c only (e i) (w i) l)
 
-module _ (s : State) (f : CircuitFits (isMatrix (s .target)) (s .circuit)) where
+module _ (s : State) (f : CircuitFits (isMatrix (s .target)) (s .circuit)) (fits : targetFits (s .circuit .inputs) (length (s .circuit .outs)) (s .target) ≡ true) where
   pub placed-full : placedOf (held (s .circuit)) (isMatrix (s .target)) (targetBytes (s .target)) (s .limits) ≡ fullBench s
   unfolding placedOf fullBench examinedAs
   placed-full =
       let t = s .target in
-      (λ i. examined (unexamined true (held (s .circuit)) (isMatrix t) (padded mostValues 0 (targetBytes t)) (wanted-padded t (length (s .circuit .outs)) i) (s .limits)))
+      (λ i. examined (unexamined true (held (s .circuit)) (isMatrix t) (padded mostValues 0 (targetBytes t)) (wanted-padded (s .circuit .inputs) (length (s .circuit .outs)) t fits (f .shape .m-most) i) (s .limits)))
       ∙ examined-full s f
 
 -- ---- what the reader's result shows
@@ -62,7 +62,7 @@ module _ (only : Bool) (s : List ℕ) (r : Reading) (is : r ≡ readingOf only s
 
 -- ---- the call
 
-module _ (b : Bench) (bytes : List ℕ) (t : Target) (l : Limits) where
+module _ (b : Bench) (bytes : List ℕ) (t : Brought) (l : Limits) where
   pub open-refused : (w : Refusal) (r : Opened) → openAnswer bytes t ≡ Refused w → r ≡ record { bench = b; answer = Refused w }
       → OpenPromise b bytes t l (r .answer) (r .bench)
   open-refused w r e is = (
@@ -81,39 +81,43 @@ module _ (b : Bench) (bytes : List ℕ) (t : Target) (l : Limits) where
     by (Refused w) = k .is
 
 module _ (only : Bool) (bytes tb : List ℕ) where
-  abbrev pub brought : Target
-  brought = targetOf only tb
+  abbrev pub given : Brought
+  given = brought only tb
 
   abbrev pub found : Listing
   found = listingIn bytes
 
   -- the reader's answer, then the target
-  pub open-answer : (a : Answer) (t : Bool) → readAnswer only bytes ≡ a → targetFits (found .inputs) (length (found .outs)) brought ≡ t
-      → openAnswer bytes brought ≡ andThen a (unless t BadTarget Done)
+  pub open-answer : (a : Answer) (t : Bool) → readAnswer only bytes ≡ a → broughtFits (found .inputs) (length (found .outs)) given ≡ t
+      → openAnswer bytes given ≡ andThen a (unless t BadTarget Done)
   unfolding openAnswer
-  open-answer a t p q =
-      let r = ap (λ (x : Bool). readAnswer x bytes) (kind-of only tb) ∙ p in
-      λ i. andThen (r i) (unless (q i) BadTarget Done)
+  open-answer a t p q = λ i. andThen (p i) (unless (q i) BadTarget Done)
 
   -- the reader refuses
-  pub open-unread : (r : Reading) → r ≡ readingOf only bytes → (w : Refusal) → r .answer ≡ Refused w → openAnswer bytes brought ≡ Refused w
+  pub open-unread : (r : Reading) → r ≡ readingOf only bytes → (w : Refusal) → r .answer ≡ Refused w → openAnswer bytes given ≡ Refused w
   open-unread r is w h = open-answer (Refused w) _ (sym (read-answer only bytes r is) ∙ h) refl
 
   -- the reader accepts
   module _ (r : Reading) (is : r ≡ readingOf only bytes) (h : r .answer ≡ Done) where
-    pub open-read : (t : Bool) → targetFits (r .circuit .n) (r .circuit .m) brought ≡ t → openAnswer bytes brought ≡ unless t BadTarget Done
+    pub open-read : (t : Bool) → broughtFits (r .circuit .n) (r .circuit .m) given ≡ t → openAnswer bytes given ≡ unless t BadTarget Done
     open-read t f =
         let e = read-circuit only bytes r is h in
-        open-answer Done t (sym (read-answer only bytes r is) ∙ h) ((λ i. targetFits (sym e i .n) (sym e i .m) brought) ∙ f)
+        open-answer Done t (sym (read-answer only bytes r is) ∙ h) ((λ i. broughtFits (sym e i .n) (sym e i .m) given) ∙ f)
 
-    pub open-short : targetFits (r .circuit .n) (r .circuit .m) brought ≡ true → length tb ≤ mostValues
-    open-short f =
-        let k = read-shaped only bytes r is h in
-        omega (arith, target-short (r .circuit .n) (r .circuit .m) brought (k .n-most) (k .m-most) f, ap length (bytes-of only tb))
+    module _ (f : broughtFits (r .circuit .n) (r .circuit .m) given ≡ true) where
+      pub open-short : length tb ≤ mostValues
+      open-short =
+          let k = read-shaped only bytes r is h in
+          let b = brings (r .circuit .n) (r .circuit .m) given f in
+          omega (arith, target-short (r .circuit .n) (r .circuit .m) (targetIn (r .circuit .n) (r .circuit .m) given) (k .n-most) (k .m-most) (b .fits), ap length (b .bytes))
 
-    pub open-placed : (l : Limits) → placedOf (r .circuit) only tb l ≡ fullBench (openState bytes brought l)
-    open-placed l =
-        let e = read-circuit only bytes r is h in
-        let f = circuit-fits only found (listing-accepted only bytes (sym (read-answer only bytes r is) ∙ h)) in
-        (λ i. placedOf (e i) (sym (kind-of only tb) i) (sym (bytes-of only tb) i) l)
-        ∙ placed-full (openState bytes brought l) (subst (λ (t : Bool). CircuitFits t found) (sym (kind-of only tb)) f)
+      pub open-placed : (l : Limits) → placedOf (r .circuit) only tb l ≡ fullBench (openState bytes given l)
+      open-placed l =
+          let e = read-circuit only bytes r is h in
+          let n = found .inputs in
+          let m = length (found .outs) in
+          let b = brings n m given ((λ i. broughtFits (sym e i .n) (sym e i .m) given) ∙ f) in
+          let k = circuit-fits only found (listing-accepted only bytes (sym (read-answer only bytes r is) ∙ h)) in
+          let same = sym (kind-by only n m tb) in
+          (λ i. placedOf (e i) (same i) (sym (b .bytes) i) l)
+          ∙ placed-full (openState bytes given l) (subst (λ (t : Bool). CircuitFits t found) same k) (b .fits)

@@ -20,11 +20,12 @@ use Rattle.circuit.proofs.RuleLaws.{circuit-fits}
 use Rattle.stored.specs.Stored.{stored}
 use Rattle.stored.specs.Writing.{roomAfter}
 use Rattle.stored.proofs.Round.{listing-stored, answer-stored}
-use Rattle.targets.specs.Target.{Target, isMatrix, targetFits}
+use Rattle.targets.specs.Target.{isMatrix, Brought, asBrought, targetIn, broughtFits}
+use Rattle.targets.proofs.Bytes.{brought-back, brought-fits}
 use Rattle.bench.specs.declared.Bench.{Bench}
 use Rattle.bench.specs.declared.Edit.{Edit}
 use Rattle.bench.specs.declared.Reported.{Reported}
-use Rattle.bench.specs.State.{Limits, State, withCircuit, Present, nothing, present, Sound, SoundPresent}
+use Rattle.bench.specs.State.{Limits, State, state, withCircuit, withTarget, Present, nothing, present, Sound, SoundPresent}
 use Rattle.bench.specs.Held.{emptyBench, fullBench, benchOf, Stands}
 use Rattle.bench.specs.Calls.{after, openAnswer, openState, gateEditAnswer, gateEdited, afterGate, readersOf, editBy, gateEdit, reported, outputEditAnswer, entryEditAnswer, limitsAnswer, noRework, sweepEdit, appendEdit, storeAnswer, storedOf, View, asTheyAre, benchAfterOpen, GatePromise, ReportPromise}
 use Rattle.bench.specs.Run.{Call, afterCall, presentFrom, presentAfter, StepGiven, RunsBy, Runs}
@@ -42,7 +43,8 @@ step-stands {b} p k (StepGiven.opened {bytes} {t} {l} answer small promise) =
     record { sound = sound-call p (opening bytes t l) small (k .sound); is = promise .1 ∙ open-stands b bytes t l k }
 step-stands p k (StepGiven.replaced {k = g} {kind} {x} {y} edit promise) = record { sound = sound-call p (replacing g kind x y) tt (k .sound); is = promise p k .1 }
 step-stands p k (StepGiven.pointed {j} {line} edit promise) = record { sound = sound-call p (pointing j line) tt (k .sound); is = promise p k .1 }
-step-stands p k (StepGiven.changed {i} {value} edit promise) = record { sound = sound-call p (changing i value) tt (k .sound); is = promise p k .1 }
+step-stands p k (StepGiven.changed {i} {value} {constant} edit promise) =
+    record { sound = sound-call p (changing i value constant) tt (k .sound); is = promise p k .1 }
 step-stands p k (StepGiven.limited {l} edit small promise) = record { sound = sound-call p (limiting l) small (k .sound); is = promise p k .1 }
 step-stands p k (StepGiven.swept edit promise) = record { sound = sound-call p sweeping tt (k .sound); is = promise p k .1 }
 step-stands p k (StepGiven.appended {kind} {x} {y} edit promise) = record { sound = sound-call p (appending kind x y) tt (k .sound); is = promise p k .1 }
@@ -80,7 +82,7 @@ pub step-exists : (v : View) (b : Bench) (p : Present) → Stands b p → (call 
 step-exists v b p k (opening bytes t l) small = StepGiven.opened (v .answer (openAnswer bytes t)) small (refl, sym (open-stands b bytes t l k))
 step-exists v b p k (replacing g kind x y) u = StepGiven.replaced (v .edit (gateEdit p g kind x y)) (met b p k _ (refl, refl))
 step-exists v b p k (pointing j line) u = StepGiven.pointed (v .edit (noRework (outputEditAnswer p j line))) (met b p k _ (refl, refl))
-step-exists v b p k (changing i value) u = StepGiven.changed (v .edit (noRework (entryEditAnswer p i value))) (met b p k _ (refl, refl))
+step-exists v b p k (changing i value constant) u = StepGiven.changed (v .edit (noRework (entryEditAnswer p i value constant))) (met b p k _ (refl, refl))
 step-exists v b p k (limiting l) small = StepGiven.limited (v .edit (noRework (limitsAnswer p))) small (met b p k _ (refl, refl))
 step-exists v b p k sweeping u = StepGiven.swept (v .edit (sweepEdit p)) (met b p k _ (refl, refl))
 step-exists v b p k (appending kind x y) u = StepGiven.appended (v .edit (appendEdit p kind x y)) (met b p k _ (refl, refl))
@@ -109,7 +111,7 @@ step-otherwise u {b} {call} p k step =
     subst (λ (z : Bench). StepGiven u b call z) (sym (step-stands p k step .is)) (step-exists u b p k call (callable step))
 
 -- an accepted open is a step from any bench, whatever it holds
-pub open-otherwise : {v : View} (u : View) {b next : Bench} (c : Bench) {bytes : List ℕ} {t : Target} {l : Limits} → openAnswer bytes t ≡ Done
+pub open-otherwise : {v : View} (u : View) {b next : Bench} (c : Bench) {bytes : List ℕ} {t : Brought} {l : Limits} → openAnswer bytes t ≡ Done
     → StepGiven v b (opening bytes t l) next → StepGiven u c (opening bytes t l) next
 open-otherwise u {b} c {bytes} {t} {l} e (StepGiven.opened answer small promise) =
     let opens : (x : Bench) → benchAfterOpen (openAnswer bytes t) (openState bytes t l) x ≡ fullBench (openState bytes t l) =
@@ -141,7 +143,7 @@ present-append p [] more = refl
 present-append p (call ∷ calls) more = present-append (afterCall p call) calls more
 
 -- an accepted open replaces everything, whatever was called before it
-pub since-open : (calls since : List Call) (bytes : List ℕ) (t : Target) (l : Limits) → openAnswer bytes t ≡ Done
+pub since-open : (calls since : List Call) (bytes : List ℕ) (t : Brought) (l : Limits) → openAnswer bytes t ≡ Done
     → presentAfter (calls ++ opening bytes t l ∷ since) ≡ presentFrom (present (openState bytes t l)) since
 since-open calls since bytes t l e =
     present-append nothing calls (opening bytes t l ∷ since)
@@ -150,24 +152,27 @@ since-open calls since bytes t l e =
 -- ---- a first-time examination
 
 -- what is present can be opened as it is, and is then present
-pub opens : (s : State) → Sound s → openAnswer (stored (s .circuit)) (s .target) ≡ Done
+pub opens : (s : State) → Sound s → openAnswer (stored (s .circuit)) (asBrought (s .target)) ≡ Done
 unfolding openAnswer
 opens s ok =
     let c = s .circuit in
     let only = isMatrix (s .target) in
     let r = answer-stored only c (ok .circuit) in
-    let f = ap (λ (x : Listing). targetFits (x .inputs) (length (x .outs)) (s .target)) (listing-stored only c (ok .circuit)) ∙ ok .target in
+    let f = ap (λ (x : Listing). broughtFits (x .inputs) (length (x .outs)) (asBrought (s .target))) (listing-stored only c (ok .circuit))
+    ∙ brought-fits (c .inputs) (length (c .outs)) (s .target) (ok .target) in
     λ i. andThen (r i) (unless (f i) BadTarget Done)
 
-pub opens-as : (s : State) → Sound s → presentAfter (opening (stored (s .circuit)) (s .target) (s .limits) ∷ []) ≡ present s
+pub opens-as : (s : State) → Sound s → presentAfter (opening (stored (s .circuit)) (asBrought (s .target)) (s .limits) ∷ []) ≡ present s
 opens-as s ok =
-    let e : openState (stored (s .circuit)) (s .target) (s .limits) ≡ s =
-    ap (withCircuit s) (listing-stored (isMatrix (s .target)) (s .circuit) (ok .circuit)) in
+    let c = s .circuit in
+    let e : openState (stored c) (asBrought (s .target)) (s .limits) ≡ s =
+    ap (λ (x : Listing). state x (targetIn (x .inputs) (length (x .outs)) (asBrought (s .target))) (s .limits)) (listing-stored (isMatrix (s .target)) c (ok .circuit))
+    ∙ ap (withTarget s) (brought-back (c .inputs) (length (c .outs)) (s .target) (ok .target)) in
     λ i. after (opens s ok i) (e i) nothing
 
 -- after any calls the bench is the one on which what is present was opened just now: no call leaves a trace but in what is present
 pub as-opened-now : (s : State) {b fresh : Bench} {calls : List Call} → Runs emptyBench calls b → presentAfter calls ≡ present s
-    → Runs emptyBench (opening (stored (s .circuit)) (s .target) (s .limits) ∷ []) fresh → b ≡ fresh
+    → Runs emptyBench (opening (stored (s .circuit)) (asBrought (s .target)) (s .limits) ∷ []) fresh → b ≡ fresh
 as-opened-now s run e now =
     let k = after-calls run in
     let ok : Sound s = subst SoundPresent e (k .sound) in

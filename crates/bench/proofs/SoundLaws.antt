@@ -1,5 +1,5 @@
 -- Every call keeps what is present sound: an accepted open brings a sound state, an accepted edit of a sound state makes a sound one. Assumes nothing.
-use mathlib.Core.Path.{_≡_, refl, sym, subst}
+use mathlib.Core.Path.{_≡_, refl, ap, _∙_, sym, subst}
 use mathlib.Core.Bool.{Bool, true}
 use mathlib.Core.List.{List}
 use Prim.Native.Nat.{ℕ, _+_}
@@ -13,7 +13,8 @@ use Rattle.circuit.proofs.RuleLaws.{circuit-fits, fits-circuit}
 use Rattle.stored.specs.Stored.{listingIn}
 use Rattle.stored.specs.Reading.{readAnswer}
 use Rattle.stored.proofs.Round.{listing-accepted}
-use Rattle.targets.specs.Target.{Target, isMatrix, targetFits}
+use Rattle.targets.specs.Target.{isMatrix, targetFits, Brought, broughtFits}
+use Rattle.targets.proofs.Bytes.{kind-by, brings}
 use Rattle.bench.specs.State.{Limits, State, withLimits, Present, nothing, present, Sound, SoundPresent, LimitsFit}
 use Rattle.bench.specs.Calls.{after, openAnswer, openState, outputEditAnswer, outputEdited, entryEditAnswer, entryEdited, appendAnswer, appended}
 use Rattle.bench.specs.Run.{Call, afterCall}
@@ -25,14 +26,16 @@ use Rattle.bench.proofs.Replacing.{sound-after as gate-sound}
 use Rattle.bench.proofs.Appends.{sound-appended}
 use Rattle.bench.proofs.Sweeps.{sound-sweep}
 
-pub sound-open : (bytes : List ℕ) (t : Target) (l : Limits) → LimitsFit l → openAnswer bytes t ≡ Done → Sound (openState bytes t l)
+pub sound-open : (bytes : List ℕ) (t : Brought) (l : Limits) → LimitsFit l → openAnswer bytes t ≡ Done → Sound (openState bytes t l)
 unfolding openAnswer
 sound-open bytes t l small h =
     let c = listingIn bytes in
-    let p = then-done (readAnswer (isMatrix t) bytes) (unless (targetFits (c .inputs) (length (c .outs)) t) BadTarget Done) h in
+    let n = c .inputs in
+    let m = length (c .outs) in
+    let p = then-done (readAnswer (t .ofMatrix) bytes) (unless (broughtFits n m t) BadTarget Done) h in
     record {
-      circuit = listing-accepted (isMatrix t) bytes (p .0);
-      target = past (targetFits (c .inputs) (length (c .outs)) t) BadTarget (p .1) .0;
+      circuit = ap (λ (only : Bool). listingAnswer only c) (kind-by (t .ofMatrix) n m (t .bytes)) ∙ listing-accepted (t .ofMatrix) bytes (p .0);
+      target = brings n m t (past (broughtFits n m t) BadTarget (p .1) .0) .fits;
       limits = small;
     }
 
@@ -55,11 +58,11 @@ module _ (s : State) (ok : Sound s) where
         limits = ok .limits;
       }
 
-  pub sound-entry : (i value : ℕ) → entryEditAnswer (present s) i value ≡ Done → Sound (entryEdited s i value)
-  sound-entry i value h =
+  pub sound-entry : (i value constant : ℕ) → entryEditAnswer (present s) i value constant ≡ Done → Sound (entryEdited s i value constant)
+  sound-entry i value constant h =
       record {
-        circuit = subst (λ (only : Bool). listingAnswer only (s .circuit) ≡ Done) (same-kind i value (s .target)) (ok .circuit);
-        target = entry-accepted i value s ok h .fits;
+        circuit = subst (λ (only : Bool). listingAnswer only (s .circuit) ≡ Done) (same-kind i value constant (s .target)) (ok .circuit);
+        target = entry-accepted i value constant s ok h .fits;
         limits = ok .limits;
       }
 
@@ -77,7 +80,7 @@ abbrev pub Callable : Call → Type 0
 Callable (opening bytes t l) = LimitsFit l
 Callable (replacing k kind a b) = Unit {0}
 Callable (pointing j line) = Unit {0}
-Callable (changing i value) = Unit {0}
+Callable (changing i value constant) = Unit {0}
 Callable (limiting l) = LimitsFit l
 Callable sweeping = Unit {0}
 Callable (appending kind a b) = Unit {0}
@@ -91,9 +94,9 @@ sound-call p (replacing k kind a b) u ok = gate-sound p k kind a b ok
 sound-call nothing (pointing j line) u ok = ok
 sound-call (present s) (pointing j line) u ok =
     sound-after (outputEditAnswer (present s) j line) (outputEdited s j line) (present s) (sound-output s ok j line) ok
-sound-call nothing (changing i value) u ok = ok
-sound-call (present s) (changing i value) u ok =
-    sound-after (entryEditAnswer (present s) i value) (entryEdited s i value) (present s) (sound-entry s ok i value) ok
+sound-call nothing (changing i value constant) u ok = ok
+sound-call (present s) (changing i value constant) u ok =
+    sound-after (entryEditAnswer (present s) i value constant) (entryEdited s i value constant) (present s) (sound-entry s ok i value constant) ok
 sound-call nothing (limiting l) small ok = ok
 sound-call (present s) (limiting l) small ok = sound-limits s ok l small
 sound-call nothing sweeping u ok = ok

@@ -3,7 +3,8 @@
 use mathlib.Core.Path.{_≡_, refl, ap, _∙_, sym}
 use mathlib.Core.Bool.{true, cond, true≢false}
 use mathlib.Core.List.{List}
-use Prim.Native.Nat.{ℕ, _^_}
+use Prim.Native.Nat.{ℕ, _+_, _^_}
+use native.Mathlib.Omega.{arith}
 use lib.Dec.{leb, eqb}
 use lib.ListN.{length, take}
 use borrow.Author.Tests.{eqb-true}
@@ -13,7 +14,8 @@ use Rattle.circuit.specs.Sizes.{mostValues}
 use Rattle.circuit.proofs.Shapes.{both}
 use Rattle.circuit.proofs.Listed.{listed-held}
 use Rattle.circuit.proofs.Padding.{padded-take}
-use Rattle.targets.specs.Target.{Target, matrix, table, isMatrix, targetBytes, targetFits, targetOf}
+use Rattle.targets.specs.Target.{Target, matrix, table, isMatrix, targetBytes, targetFits, Brought, targetBy}
+use Rattle.targets.proofs.Bytes.{rows-long, brought-back}
 use Rattle.bench.specs.declared.Bench.{Bench}
 use Rattle.bench.specs.State.{Limits, State, state, Present, nothing, present, Sound, limits}
 use Rattle.bench.specs.Held.{emptyBench, fullBench, Stands, circuitOf, limitsOf}
@@ -26,7 +28,7 @@ both-same p q = (p .0 ∙ sym (q .0), p .1 ∙ sym (q .1))
 
 module _ (v : View) where
   -- an open on any bench, of either kind: `matrix rows` for `open_matrix`, `table entries` for `open_table`
-  pub open-unique : (b : Bench) (bytes : List ℕ) (t : Target) (l : Limits) (r s : v .Answers) (c d : Bench)
+  pub open-unique : (b : Bench) (bytes : List ℕ) (t : Brought) (l : Limits) (r s : v .Answers) (c d : Bench)
       → OpenGiven v b bytes t l r c → OpenGiven v b bytes t l s d → (r ≡ s) × (c ≡ d)
   open-unique b bytes t l r s c d m n = both-same m n
 
@@ -38,8 +40,8 @@ module _ (v : View) where
     pub point-output-unique : (j line : ℕ) (r s : v .Edits) (c d : Bench) → OutputGiven v b j line r c → OutputGiven v b j line s d → (r ≡ s) × (c ≡ d)
     point-output-unique j line r s c d m n = both-same (m p k) (n p k)
 
-    pub change-entry-unique : (i value : ℕ) (r s : v .Edits) (c d : Bench) → EntryGiven v b i value r c → EntryGiven v b i value s d → (r ≡ s) × (c ≡ d)
-    change-entry-unique i value r s c d m n = both-same (m p k) (n p k)
+    pub change-entry-unique : (i value constant : ℕ) (r s : v .Edits) (c d : Bench) → EntryGiven v b i value constant r c → EntryGiven v b i value constant s d → (r ≡ s) × (c ≡ d)
+    change-entry-unique i value constant r s c d m n = both-same (m p k) (n p k)
 
     pub set-limits-unique : (l : Limits) (r s : v .Edits) (c d : Bench) → LimitsGiven v b l r c → LimitsGiven v b l s d → (r ≡ s) × (c ≡ d)
     set-limits-unique l r s c d m n = both-same (m p k) (n p k)
@@ -62,13 +64,15 @@ module _ (v : View) where
 -- what a bench that holds a state holds it as
 abbrev onBench : Bench → State
 onBench b =
-    state (listed (circuitOf b)) (targetOf (b .«is_matrix») (take (cond (b .«is_matrix») (b .m) (2 ^ b .n)) (b .target)))
+    state (listed (circuitOf b)) (targetBy (b .«is_matrix») (b .n) (b .m) (take (cond (b .«is_matrix») (b .m + b .m) (2 ^ b .n)) (b .target)))
     (limitsOf b)
 
-target-back : (n m : ℕ) (t : Target) → targetFits n m t ≡ true → targetOf (isMatrix t) (take (cond (isMatrix t) m (2 ^ n)) (padded mostValues 0 (targetBytes t))) ≡ t
+target-back : (n m : ℕ) (t : Target) → targetFits n m t ≡ true
+    → targetBy (isMatrix t) n m (take (cond (isMatrix t) (m + m) (2 ^ n)) (padded mostValues 0 (targetBytes t))) ≡ t
 unfolding targetFits
 target-back n m (matrix rows) f =
-    ap matrix (padded-take mostValues 0 rows m (sym (eqb-true (length rows) m (both (eqb (length rows) m) f .0))))
+    let l = eqb-true (length rows) m (both (eqb (length rows) m) f .0) in
+    ap (targetBy true n m) (padded-take mostValues 0 (targetBytes (matrix rows)) (m + m) (omega (arith, l, rows-long rows))) ∙ brought-back n m (matrix rows) f
 target-back n m (table entries) f =
     ap table (padded-take mostValues 0 entries (2 ^ n)
     (sym (eqb-true (length entries) (2 ^ n) (both (eqb (length entries) (2 ^ n)) (both (leb m 8) f .1) .0))))

@@ -1,14 +1,15 @@
 -- The calls as functions on what is present: what each answers, what is present after it, and what the code promises of it.
 use mathlib.Core.Path.{_≡_}
-use mathlib.Core.Bool.{Bool, true, false, cond}
+use mathlib.Core.Bool.{Bool, true, false, cond, _&&_}
 use mathlib.Core.List.{List, [], _∷_, _++_}
 use Prim.Native.Nat.{ℕ, suc, _+_, _^_}
-use lib.Dec.{ltb}
+use lib.Dec.{ltb, eqb}
 use lib.ListN.{length, set, replicate}
 use Rattle.circuit.specs.declared.Refusal.the-variants.{Target as BadTarget, NotThere, NothingOpen, Full}
 use Rattle.circuit.specs.declared.Answer.{Answer}
 use Rattle.circuit.specs.declared.Answer.the-variants.{Done, Refused}
 use Rattle.circuit.specs.Lines.{Listing, gateAt, reached, padded, gate, withGate, withMore, withOuts}
+use Rattle.circuit.specs.Rows.{row}
 use Rattle.circuit.specs.Rules.{unless, andThen, gateAnswer, outAnswer}
 use Rattle.circuit.specs.Sizes.{mostGates, mostLines}
 use Rattle.stored.specs.declared.Writing.{Writing}
@@ -17,7 +18,7 @@ use Rattle.stored.specs.Stored.{stored, listingIn}
 use Rattle.stored.specs.Reading.{readAnswer}
 use Rattle.stored.specs.Writing.{intoRoom, roomAfter}
 use Rattle.sweep.specs.Sweep.{swept}
-use Rattle.targets.specs.Target.{Target, matrix, table, isMatrix, rowFits, entryFits, targetFits}
+use Rattle.targets.specs.Target.{Target, matrix, table, isMatrix, rowFits, entryFits, Brought, targetIn, broughtFits}
 use Rattle.bench.specs.declared.Bench.{Bench}
 use Rattle.bench.specs.declared.Edit.{Edit}
 use Rattle.bench.specs.declared.Reported.{Reported}
@@ -33,22 +34,22 @@ after (Refused w) s p = p
 -- ---- open
 
 -- the refusals of an open: as the reader, then the target (8)
-unfoldable pub openAnswer : List ℕ → Target → Answer
+unfoldable pub openAnswer : List ℕ → Brought → Answer
 openAnswer bytes t =
     let c = listingIn bytes in
-    andThen (readAnswer (isMatrix t) bytes) (unless (targetFits (c .inputs) (length (c .outs)) t) BadTarget Done)
+    andThen (readAnswer (t .ofMatrix) bytes) (unless (broughtFits (c .inputs) (length (c .outs)) t) BadTarget Done)
 
 -- the state that an open brings
-abbrev pub openState : List ℕ → Target → Limits → State
-openState bytes t l = state (listingIn bytes) t l
+abbrev pub openState : List ℕ → Brought → Limits → State
+openState bytes t l = let c = listingIn bytes in state c (targetIn (c .inputs) (length (c .outs)) t) l
 
 -- what is present after an open: a new open replaces everything, a refused one keeps what was there
-abbrev pub afterOpen : Present → List ℕ → Target → Limits → Present
+abbrev pub afterOpen : Present → List ℕ → Brought → Limits → Present
 afterOpen p bytes t l = after (openAnswer bytes t) (openState bytes t l) p
 
 -- ---- edits
 
--- replacing gate k: nothing open (13), no such gate (12), then kind (4), operands (5), XOR only (7)
+-- replacing gate k: nothing open (13), no such gate (12), then kind (4), operands (5), linear only (7)
 unfoldable pub gateEditAnswer : Present → ℕ → ℕ → ℕ → ℕ → Answer
 gateEditAnswer nothing k kind a b = Refused NothingOpen
 gateEditAnswer (present s) k kind a b =
@@ -78,29 +79,30 @@ abbrev pub afterOutput : Present → ℕ → ℕ → Present
 afterOutput nothing j line = nothing
 afterOutput (present s) j line = after (outputEditAnswer (present s) j line) (outputEdited s j line) (present s)
 
--- changing entry i of the target: no such row or entry (12), then its rule (8)
-abbrev pub entryAnswer : Listing → Target → ℕ → ℕ → Answer
-entryAnswer c (matrix rows) i value = unless (ltb i (length (c .outs))) NotThere (unless (rowFits (c .inputs) value) BadTarget Done)
-entryAnswer c (table entries) i value = unless (ltb i (2 ^ c .inputs)) NotThere (unless (entryFits (length (c .outs)) value) BadTarget Done)
+-- changing entry i of the target: no such row or entry (12), then its rule (8); beside a table's entry the constant is 0
+abbrev pub entryAnswer : Listing → Target → ℕ → ℕ → ℕ → Answer
+entryAnswer c (matrix rows) i value constant = unless (ltb i (length (c .outs))) NotThere (unless (rowFits (c .inputs) (row value constant)) BadTarget Done)
+entryAnswer c (table entries) i value constant =
+    unless (ltb i (2 ^ c .inputs)) NotThere (unless (entryFits (length (c .outs)) value && eqb constant 0) BadTarget Done)
 
 -- changing entry i: nothing open (13), then as above
-unfoldable pub entryEditAnswer : Present → ℕ → ℕ → Answer
-entryEditAnswer nothing i value = Refused NothingOpen
-entryEditAnswer (present s) i value = entryAnswer (s .circuit) (s .target) i value
+unfoldable pub entryEditAnswer : Present → ℕ → ℕ → ℕ → Answer
+entryEditAnswer nothing i value constant = Refused NothingOpen
+entryEditAnswer (present s) i value constant = entryAnswer (s .circuit) (s .target) i value constant
 
--- the target with entry i changed
-abbrev pub withEntry : Target → ℕ → ℕ → Target
-withEntry (matrix rows) i value = matrix (set rows i value)
-withEntry (table entries) i value = table (set entries i value)
+-- the target with entry i changed: mask and constant of a row together
+abbrev pub withEntry : Target → ℕ → ℕ → ℕ → Target
+withEntry (matrix rows) i value constant = matrix (set rows i (row value constant))
+withEntry (table entries) i value constant = table (set entries i value)
 
 -- the state with entry i changed
-abbrev pub entryEdited : State → ℕ → ℕ → State
-entryEdited s i value = withTarget s (withEntry (s .target) i value)
+abbrev pub entryEdited : State → ℕ → ℕ → ℕ → State
+entryEdited s i value constant = withTarget s (withEntry (s .target) i value constant)
 
 -- what is present after changing an entry
-abbrev pub afterEntry : Present → ℕ → ℕ → Present
-afterEntry nothing i value = nothing
-afterEntry (present s) i value = after (entryEditAnswer (present s) i value) (entryEdited s i value) (present s)
+abbrev pub afterEntry : Present → ℕ → ℕ → ℕ → Present
+afterEntry nothing i value constant = nothing
+afterEntry (present s) i value constant = after (entryEditAnswer (present s) i value constant) (entryEdited s i value constant) (present s)
 
 -- setting the limits: nothing open (13)
 abbrev pub limitsAnswer : Present → Answer
@@ -121,7 +123,7 @@ afterSweep (present s) = present (withCircuit s (swept (s .circuit)))
 abbrev pub mostGatesFor : Listing → Target → ℕ
 mostGatesFor c t = mostGates
 
--- appending a gate: nothing open (13), as many gates there as there may be (18), then kind (4), operands (5), XOR only (7)
+-- appending a gate: nothing open (13), as many gates there as there may be (18), then kind (4), operands (5), linear only (7)
 unfoldable pub appendAnswer : Present → ℕ → ℕ → ℕ → Answer
 appendAnswer nothing kind a b = Refused NothingOpen
 appendAnswer (present s) kind a b =
@@ -237,7 +239,7 @@ benchAfterOpen Done s b = benchOf (present s)
 benchAfterOpen (Refused w) s b = b
 
 -- of an open: its answer, and the bench after it
-abbrev pub OpenGiven : (v : View) → Bench → List ℕ → Target → Limits → v .Answers → Bench → Type 0
+abbrev pub OpenGiven : (v : View) → Bench → List ℕ → Brought → Limits → v .Answers → Bench → Type 0
 OpenGiven v b bytes t l r next = (r ≡ v .answer (openAnswer bytes t)) × (next ≡ benchAfterOpen (openAnswer bytes t) (openState bytes t l) b)
 
 -- of replacing a gate
@@ -249,8 +251,9 @@ abbrev pub OutputGiven : (v : View) → Bench → ℕ → ℕ → v .Edits → B
 OutputGiven v b j line r next = (p : Present) → Stands b p → (r ≡ v .edit (noRework (outputEditAnswer p j line))) × (next ≡ benchOf (afterOutput p j line))
 
 -- of changing an entry
-abbrev pub EntryGiven : (v : View) → Bench → ℕ → ℕ → v .Edits → Bench → Type 0
-EntryGiven v b i value r next = (p : Present) → Stands b p → (r ≡ v .edit (noRework (entryEditAnswer p i value))) × (next ≡ benchOf (afterEntry p i value))
+abbrev pub EntryGiven : (v : View) → Bench → ℕ → ℕ → ℕ → v .Edits → Bench → Type 0
+EntryGiven v b i value constant r next =
+    (p : Present) → Stands b p → (r ≡ v .edit (noRework (entryEditAnswer p i value constant))) × (next ≡ benchOf (afterEntry p i value constant))
 
 -- of setting the limits
 abbrev pub LimitsGiven : (v : View) → Bench → Limits → v .Edits → Bench → Type 0
@@ -276,7 +279,7 @@ StoreGiven v b room r out =
 -- ---- the same with each answer as it is: what the functions by value promise, and those on a lent bench
 
 -- of an open
-abbrev pub OpenPromise : Bench → List ℕ → Target → Limits → Answer → Bench → Type 0
+abbrev pub OpenPromise : Bench → List ℕ → Brought → Limits → Answer → Bench → Type 0
 OpenPromise = OpenGiven asTheyAre
 
 -- of replacing a gate
@@ -288,7 +291,7 @@ abbrev pub OutputPromise : Bench → ℕ → ℕ → Edit → Bench → Type 0
 OutputPromise = OutputGiven asTheyAre
 
 -- of changing an entry
-abbrev pub EntryPromise : Bench → ℕ → ℕ → Edit → Bench → Type 0
+abbrev pub EntryPromise : Bench → ℕ → ℕ → ℕ → Edit → Bench → Type 0
 EntryPromise = EntryGiven asTheyAre
 
 -- of setting the limits

@@ -15,8 +15,8 @@ use Rattle.circuit.specs.Lines.{Gate, gate, lines, depthStep, andStep, wordsSte
 use Rattle.circuit.specs.Structs.{gateOf, putGate}
 use Rattle.circuit.specs.Rules.{unless, shaped, gateAnswer, outAnswer}
 use Rattle.circuit.specs.Sizes.{mostGates, mostLines, mostValues}
-use Rattle.targets.specs.Target.{valueFits, targetOf}
-use Rattle.targets.specs.Wanted.{wantedOf}
+use Rattle.targets.specs.Target.{valueFits}
+use Rattle.targets.specs.Wanted.{wantedIn}
 use Rattle.bench.specs.declared.Bench.{Bench}
 use Rattle.bench.specs.declared.Edit.{Edit}
 use Rattle.bench.specs.declared.Edited.{Edited}
@@ -92,10 +92,14 @@ unfoldable pub outputLook : Bool → ℕ → ℕ → ℕ → ℕ → ℕ → Ans
 outputLook opened n m g j line = unless (standing opened n m g) NothingOpen (unless (ltb j m) NotThere (outAnswer (n + g) line))
 
 -- what changing an entry is refused for
-unfoldable pub entryLook : Bool → Bool → ℕ → ℕ → ℕ → ℕ → ℕ → Answer
-entryLook opened only n m g i value =
+unfoldable pub entryLook : Bool → Bool → ℕ → ℕ → ℕ → ℕ → ℕ → ℕ → Answer
+entryLook opened only n m g i value constant =
     unless (standing opened n m g) NothingOpen
-    (unless (ltb i (cond only m (2 ^ n))) NotThere (unless (valueFits only n m value) BadTarget Done))
+    (unless (ltb i (cond only m (2 ^ n))) NotThere (unless (valueFits only n m value constant) BadTarget Done))
+
+-- the target's bytes with entry i changed: a row's constant stands m bytes behind its mask
+unfoldable pub entered : Bool → ℕ → List ℕ → ℕ → ℕ → ℕ → List ℕ
+entered only m bytes i value constant = let l = set bytes i value in cond only (set l (m + i) constant) l
 
 -- a bench beside an answer that reworks no line
 abbrev pub unreworked : Bench → Answer → Edited
@@ -112,4 +116,4 @@ Reworked (Refused w) b k kind x y r = r ≡ unreworked b (Refused w)
 unfoldable pub placedOf : Circuit → Bool → List ℕ → Limits → Bench
 placedOf c only bytes l =
     let target = padded mostValues 0 bytes in
-    examined (unexamined true c only target (wantedOf (targetOf only target) (c .m)) l)
+    examined (unexamined true c only target (wantedIn only target (c .m)) l)

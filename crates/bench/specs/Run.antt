@@ -1,18 +1,18 @@
 -- A sequence of calls: what is present after it by the definition, and what it may make of a bench by the promises of the functions.
 use mathlib.Core.List.{List, [], _∷_}
 use Prim.Native.Nat.{ℕ}
-use Rattle.targets.specs.Target.{Target}
+use Rattle.targets.specs.Target.{Brought}
 use Rattle.bench.specs.declared.Bench.{Bench}
 use Rattle.bench.specs.State.{Limits, LimitsFit, Present, nothing}
 use Rattle.bench.specs.Calls.{afterOpen, afterGate, afterOutput, afterEntry, afterLimits, afterSweep, afterAppend, View, asTheyAre, OpenGiven, GateGiven, OutputGiven, EntryGiven, LimitsGiven, SweepGiven, AppendGiven, ReportGiven, StoreGiven}
 
 -- the calls, with what each is given: stored bytes, a target of either kind and limits; gate, kind and operands; output and
--- line; entry and value; limits; nothing; kind and operands; nothing; and the room that is lent
+-- line; entry, value and constant; limits; nothing; kind and operands; nothing; and the room that is lent
 pub data Call : Type 0 where
-  opening : List ℕ → Target → Limits → Call
+  opening : List ℕ → Brought → Limits → Call
   replacing : ℕ → ℕ → ℕ → ℕ → Call
   pointing : ℕ → ℕ → Call
-  changing : ℕ → ℕ → Call
+  changing : ℕ → ℕ → ℕ → Call
   limiting : Limits → Call
   sweeping : Call
   appending : ℕ → ℕ → ℕ → Call
@@ -24,7 +24,7 @@ abbrev pub afterCall : Present → Call → Present
 afterCall p (opening bytes t l) = afterOpen p bytes t l
 afterCall p (replacing k kind a b) = afterGate p k kind a b
 afterCall p (pointing j line) = afterOutput p j line
-afterCall p (changing i value) = afterEntry p i value
+afterCall p (changing i value constant) = afterEntry p i value constant
 afterCall p (limiting l) = afterLimits p l
 afterCall p sweeping = afterSweep p
 afterCall p (appending kind a b) = afterAppend p kind a b
@@ -43,11 +43,11 @@ presentAfter calls = presentFrom nothing calls
 -- one call on a bench, with some answer: what is known of the bench after it is the function's promise; report and store
 -- take the bench by value, and the caller's is as it was
 pub data StepGiven (v : View) (b : Bench) : Call → Bench → Type 0 where
-  opened : {bytes : List ℕ} {t : Target} {l : Limits} {next : Bench} (answer : v .Answers)
+  opened : {bytes : List ℕ} {t : Brought} {l : Limits} {next : Bench} (answer : v .Answers)
       → LimitsFit l → OpenGiven v b bytes t l answer next → StepGiven v b (opening bytes t l) next
   replaced : {k kind x y : ℕ} {next : Bench} (edit : v .Edits) → GateGiven v b k kind x y edit next → StepGiven v b (replacing k kind x y) next
   pointed : {j line : ℕ} {next : Bench} (edit : v .Edits) → OutputGiven v b j line edit next → StepGiven v b (pointing j line) next
-  changed : {i value : ℕ} {next : Bench} (edit : v .Edits) → EntryGiven v b i value edit next → StepGiven v b (changing i value) next
+  changed : {i value constant : ℕ} {next : Bench} (edit : v .Edits) → EntryGiven v b i value constant edit next → StepGiven v b (changing i value constant) next
   limited : {l : Limits} {next : Bench} (edit : v .Edits) → LimitsFit l → LimitsGiven v b l edit next → StepGiven v b (limiting l) next
   swept : {next : Bench} (edit : v .Edits) → SweepGiven v b edit next → StepGiven v b sweeping next
   appended : {kind x y : ℕ} {next : Bench} (edit : v .Edits) → AppendGiven v b kind x y edit next → StepGiven v b (appending kind x y) next

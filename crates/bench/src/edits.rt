@@ -1,12 +1,12 @@
 // The edits: each looks first, and changes the bench only where nothing is left to refuse.
 ghost use mathlib.Core.Path.{_≡_};
-ghost use mathlib.Core.Bool.{cond};
-ghost use Prim.Native.Nat.{_^_, _≤_};
+ghost use mathlib.Core.Bool.{true, cond};
+ghost use Prim.Native.Nat.{_^_, _≤_, _<_};
 ghost use Rattle.circuit.specs.declared.Answer.the-variants.{Refused};
-ghost use Rattle.circuit.specs.Sizes.{mostInputs};
+ghost use Rattle.circuit.specs.Sizes.{mostInputs, mostOutputs, mostValues};
 ghost use Rattle.bench.specs.Calls.{GatePromise, OutputPromise, EntryPromise, LimitsPromise};
 ghost use Rattle.bench.specs.State.{limits};
-ghost use Rattle.bench.specs.Parts.{standing, gateLook, outputLook, entryLook, unreworked};
+ghost use Rattle.bench.specs.Parts.{standing, gateLook, outputLook, entryLook, entered, unreworked};
 use crate::Bench;
 use crate::Edit;
 use crate::Edited;
@@ -14,6 +14,7 @@ use crate::examine::rework;
 use circuit::Answer;
 use circuit::LINES;
 use circuit::Refusal;
+use circuit::VALUES;
 use circuit::from_byte;
 use circuit::low_byte;
 use circuit::low16;
@@ -140,12 +141,13 @@ fn look_at_entry(
     g: usize,
     i: usize,
     value: usize,
+    constant: usize,
 ) -> Answer
-    ensures { λ r. ⌜ r ≡ entryLook opened only n m g i value ⌝ }
+    ensures { λ r. ⌜ r ≡ entryLook opened only n m g i value constant ⌝ }
 {
     if is_standing(opened, n, m, g) {
         if i < target_length(only, n, m) {
-            if value_fits(only, n, m, value) {
+            if value_fits(only, n, m, value, constant) {
                 Answer::Done
             } else {
                 Answer::Refused(Refusal::Target)
@@ -158,9 +160,29 @@ fn look_at_entry(
     }
 }
 
-// Changes row i of a matrix, or the entry of input value i of a table.
-pub fn change_entry(bench: Bench, i: usize, value: usize) -> Edited
-    ensures { λ r. ⌜ EntryPromise bench i value (r .edit) (r .bench) ⌝ }
+// The target's bytes with entry i changed: a row's constant stands behind all masks, m bytes past its mask.
+fn enter(
+    only: bool,
+    m: usize,
+    bytes: [u8; VALUES],
+    i: usize,
+    value: u8,
+    constant: u8,
+) -> [u8; VALUES]
+    requires { ⌜ (m ≤ mostOutputs) × (i < mostValues) × (only ≡ true → i < m) ⌝ }
+    ensures { λ r. ⌜ r ≡ entered only m bytes i value constant ⌝ }
+{
+    let mut target = bytes;
+    target[i] = value;
+    if only {
+        target[m + i] = constant;
+    }
+    target
+}
+
+// Changes row i of a matrix, mask and constant together, or the entry of input value i of a table, beside which the constant is 0.
+pub fn change_entry(bench: Bench, i: usize, value: usize, constant: usize) -> Edited
+    ensures { λ r. ⌜ EntryPromise bench i value constant (r .edit) (r .bench) ⌝ }
 {
     let look = look_at_entry(
         bench.is_open,
@@ -170,12 +192,21 @@ pub fn change_entry(bench: Bench, i: usize, value: usize) -> Edited
         bench.g,
         i,
         value,
+        constant,
     );
     match look {
         Answer::Refused(why) => refused(bench, why),
         Answer::Done => {
             let mut c = bench;
-            c.target[i] = low_byte(value);
+            let bytes = c.target;
+            c.target = enter(
+                c.is_matrix,
+                c.m,
+                bytes,
+                i,
+                low_byte(value),
+                low_byte(constant),
+            );
             let wanted = wanted_words(c.is_matrix, &c.target, c.m);
             c.wanted = wanted;
             without_rework(c, Answer::Done)

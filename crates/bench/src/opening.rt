@@ -1,11 +1,12 @@
 // An empty bench, and opening: the bytes are read and the target is looked at before anything is put on the bench.
 ghost use mathlib.Core.Path.{_≡_};
+ghost use mathlib.Core.Bool.{true, false};
 ghost use Prim.Native.Nat.{_≤_};
 ghost use lib.ListN.{length};
 ghost use Rattle.circuit.specs.declared.Answer.the-variants.{Refused};
 ghost use Rattle.circuit.specs.Sizes.{mostInputs, mostOutputs, mostGates, mostValues};
 ghost use Rattle.circuit.specs.Lines.{padded};
-ghost use Rattle.targets.specs.Target.{matrix, table, targetOf};
+ghost use Rattle.targets.specs.Target.{brought};
 ghost use Rattle.bench.specs.Held.{emptyBench};
 ghost use Rattle.bench.specs.Calls.{OpenPromise};
 ghost use Rattle.bench.specs.State.{limits};
@@ -130,7 +131,7 @@ fn open_with(
     depth: u8,
     ands: u8,
 ) -> Opened
-    ensures { λ r. ⌜ OpenPromise bench (now (bytes .entry)) (targetOf only (now (target .entry))) (limits gates depth ands) (r .answer) (r .bench) ⌝ }
+    ensures { λ r. ⌜ OpenPromise bench (now (bytes .entry)) (brought only (now (target .entry))) (limits gates depth ands) (r .answer) (r .bench) ⌝ }
 {
     let reading = read(bytes, only);
     let answer = reading.answer;
@@ -156,7 +157,8 @@ fn open_with(
     }
 }
 
-// Opens a circuit with a matrix for its target: `rows[j]` is the mask of the inputs summed into output j.
+// Opens a circuit with a matrix for its target. `rows` is the masks of the inputs summed into each output, and then the
+// constants that are added, a byte each.
 pub fn open_matrix(
     bench: Bench,
     bytes: &[u8],
@@ -165,7 +167,7 @@ pub fn open_matrix(
     depth: u8,
     ands: u8,
 ) -> Opened
-    ensures { λ r. ⌜ OpenPromise bench (now (bytes .entry)) (matrix (now (rows .entry))) (limits gates depth ands) (r .answer) (r .bench) ⌝ }
+    ensures { λ r. ⌜ OpenPromise bench (now (bytes .entry)) (brought true (now (rows .entry))) (limits gates depth ands) (r .answer) (r .bench) ⌝ }
 {
     open_with(bench, bytes, true, rows, gates, depth, ands)
 }
@@ -179,7 +181,7 @@ pub fn open_table(
     depth: u8,
     ands: u8,
 ) -> Opened
-    ensures { λ r. ⌜ OpenPromise bench (now (bytes .entry)) (table (now (entries .entry))) (limits gates depth ands) (r .answer) (r .bench) ⌝ }
+    ensures { λ r. ⌜ OpenPromise bench (now (bytes .entry)) (brought false (now (entries .entry))) (limits gates depth ands) (r .answer) (r .bench) ⌝ }
 {
     open_with(bench, bytes, false, entries, gates, depth, ands)
 }

@@ -1,22 +1,21 @@
 -- Laws of a target and its bytes: the rows that some bytes are, the bytes of some rows, and what an edit changes of either. Assumes nothing.
 use mathlib.Core.Path.{_≡_, refl, ap, ap₂, _∙_, sym}
-use mathlib.Core.Bool.{Bool, true, false}
+use mathlib.Core.Bool.{Bool, true, false, _&&_}
 use mathlib.Core.List.{List, [], _∷_, _++_, map}
-use Prim.Native.Nat.{ℕ, zero, suc, _≤_, _<_, _+_, _-_, _*_, _^_}
+use Prim.Native.Nat.{ℕ, zero, suc, _≤_, _<_, _+_, _*_, _^_}
 use native.Mathlib.Omega.{arith}
 use native.Mathlib.Nat.{zero-add, suc-add}
 use lib.Dec.{leb, eqb}
 use lib.ListN.{length, getD, set, take, drop, length-map, length-append, length-drop, length-set, take-append-drop, List·getD-map}
 use lib.Pow.{pow-mono}
 use lib.Seq.{getD-append-add, getD-drop, set-append-left}
-use borrow.Author.Tests.{eqb-true}
+use borrow.Author.Tests.{eqb-true, eq-eqb}
 use Rattle.circuit.specs.Sizes.{mostInputs, mostOutputs, mostValues}
-use Rattle.circuit.specs.Lines.{upto, padded}
+use Rattle.circuit.specs.Lines.{upto}
 use Rattle.circuit.specs.Rows.{Row, row, noRow}
-use Rattle.circuit.proofs.Padding.{pad-read}
 use Rattle.circuit.proofs.Shapes.{both}
 use Rattle.circuit.proofs.Upto.{upto-length, upto-at, upto-same, upto-take, upto-all, map-upto}
-use Rattle.targets.specs.Target.{Target, matrix, table, isMatrix, targetFits, maskBytes, rowIn, rowsIn, Brought, brought, targetBy, targetIn, broughtFits, targetBytes}
+use Rattle.targets.specs.Target.{Target, matrix, table, isMatrix, targetFits, maskBytes, rowIn, rowsIn, Brought, brought, targetBy, targetIn, broughtFits, targetBytes, asBrought}
 
 -- ---- the rows that some bytes are
 
@@ -73,17 +72,6 @@ brings n m b e = by (b .ofMatrix) e where
       record { fits = k .1; bytes = rows-bytes n m l (omega (arith, eqb-true (length l) (m * maskBytes n + m) (k .0))) }
   by false e = record { fits = e; bytes = refl }
 
--- a target that keeps its rule has at most a byte for each input value
-pub target-short : (n m : ℕ) (t : Target) → n ≤ mostInputs → m ≤ mostOutputs → targetFits n m t ≡ true → length (targetBytes t) ≤ mostValues
-unfolding targetFits
-target-short n m (matrix rows) n8 m32 f =
-    let a = map (λ (r : Row). r .mask) rows in
-    let b = map (λ (r : Row). r .constant) rows in
-    omega (arith, eqb-true (length rows) m (both (eqb (length rows) m) f .0), length-append a b, length-map rows (λ (r : Row). r .mask), length-map rows (λ (r : Row). r .constant))
-target-short n m (table entries) n8 m32 f =
-    let k = both (eqb (length entries) (2 ^ n)) (both (leb m 8) f .1) in
-    omega (arith, eqb-true (length entries) (2 ^ n) (k .0), pow-mono {i = n} {j = 8} n8)
-
 -- ---- the bytes of some rows
 
 -- something of each, before or behind other bytes
@@ -92,18 +80,57 @@ at-front f [] l j h = absurd (omega arith)
 at-front f (r ∷ rows) l zero h = refl
 at-front f (r ∷ rows) l (suc j) h = at-front f rows l j (omega arith)
 
--- row j is read from them, and from them with zeros past the last
-pub row-back : (n cap : ℕ) (rows : List Row) (j : ℕ) → j < length rows → rowIn n (length rows) (padded cap 0 (targetBytes (matrix rows))) j ≡ getD rows j noRow
-row-back n cap rows j h =
-    let bytes = targetBytes (matrix rows) in
-    let masks = map (λ (r : Row). r .mask) rows in
-    let constants = map (λ (r : Row). r .constant) rows in
-    let a : getD bytes j 0 ≡ getD rows j noRow .mask = at-front (λ (r : Row). r .mask) rows constants j h in
-    let b : getD bytes (length rows + j) 0 ≡ getD rows j noRow .constant =
-    ap (λ (k : ℕ). getD bytes (k + j) 0) (sym (length-map rows (λ (r : Row). r .mask)))
-    ∙ getD-append-add masks constants j 0 ∙ List·getD-map (λ (r : Row). r .constant) rows j noRow in
-    row-is n (length rows) (padded cap 0 bytes) j
-    ∙ ap₂ row (pad-read bytes (cap - length bytes) j 0 ∙ a) (pad-read bytes (cap - length bytes) (length rows + j) 0 ∙ b)
+-- they are read from those bytes, and from any that read the same, as with zeros past the last
+pub rows-back : (n : ℕ) (rows : List Row) (l : List ℕ) → ((k : ℕ) → getD l k 0 ≡ getD (targetBytes (matrix rows)) k 0) → rowsIn n (length rows) l ≡ rows
+rows-back n rows l same = upto-same (rowIn n (length rows) l) (λ (j : ℕ). getD rows j noRow) (length rows) each ∙ upto-all rows noRow where
+  masks : List ℕ
+  masks = map (λ (r : Row). r .mask) rows
+
+  constants : List ℕ
+  constants = map (λ (r : Row). r .constant) rows
+
+  behind : (j : ℕ) → getD (masks ++ constants) (length rows + j) 0 ≡ getD rows j noRow .constant
+  behind j =
+      ap (λ (k : ℕ). getD (masks ++ constants) (k + j) 0) (sym (length-map rows (λ (r : Row). r .mask)))
+      ∙ getD-append-add masks constants j 0 ∙ List·getD-map (λ (r : Row). r .constant) rows j noRow
+
+  each : (j : ℕ) → j < length rows → rowIn n (length rows) l j ≡ getD rows j noRow
+  each j h = row-is n (length rows) l j ∙ ap₂ row (same j ∙ at-front (λ (r : Row). r .mask) rows constants j h) (same (length rows + j) ∙ behind j)
+
+-- ---- a target that keeps its rule, brought
+
+pub rows-long : (rows : List Row) → length (targetBytes (matrix rows)) ≡ length rows + length rows
+rows-long rows =
+    let a = map (λ (r : Row). r .mask) rows in
+    let b = map (λ (r : Row). r .constant) rows in
+    omega (arith, length-append a b, length-map rows (λ (r : Row). r .mask), length-map rows (λ (r : Row). r .constant))
+
+-- a target that keeps its rule has at most a byte for each input value
+pub target-short : (n m : ℕ) (t : Target) → n ≤ mostInputs → m ≤ mostOutputs → targetFits n m t ≡ true → length (targetBytes t) ≤ mostValues
+unfolding targetFits
+target-short n m (matrix rows) n8 m32 f = omega (arith, eqb-true (length rows) m (both (eqb (length rows) m) f .0), rows-long rows)
+target-short n m (table entries) n8 m32 f =
+    let k = both (eqb (length entries) (2 ^ n)) (both (leb m 8) f .1) in
+    omega (arith, eqb-true (length entries) (2 ^ n) (k .0), pow-mono {i = n} {j = 8} n8)
+
+module _ (n m : ℕ) where
+  -- it is itself,
+  pub brought-back : (t : Target) → targetFits n m t ≡ true → targetIn n m (asBrought t) ≡ t
+  unfolding targetFits
+  brought-back (matrix rows) f =
+      let l = eqb-true (length rows) m (both (eqb (length rows) m) f .0) in
+      ap (λ (k : ℕ). matrix (rowsIn n k (targetBytes (matrix rows)))) (sym l) ∙ ap matrix (rows-back n rows (targetBytes (matrix rows)) (λ k. refl))
+  brought-back (table entries) f = refl
+
+  -- and accepted
+  pub brought-fits : (t : Target) → targetFits n m t ≡ true → broughtFits n m (asBrought t) ≡ true
+  unfolding broughtFits targetFits
+  brought-fits (matrix rows) f =
+      let l = eqb-true (length rows) m (both (eqb (length rows) m) f .0) in
+      let long = eq-eqb (length (targetBytes (matrix rows))) (m * maskBytes n + m) (omega (arith, rows-long rows, l)) in
+      let fits = ap (targetFits n m) (brought-back (matrix rows) f) ∙ f in
+      λ i. long i && fits i
+  brought-fits (table entries) f = f
 
 -- ---- an entry changed
 

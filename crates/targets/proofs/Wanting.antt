@@ -21,9 +21,9 @@ use Rattle.circuit.proofs.Upto.{upto-at, upto-same}
 use Rattle.circuit.proofs.WordLaws.{value-words, input-right, none-set}
 use Rattle.circuit.proofs.ParityLaws.{parity-lt, row-has, row-lacks}
 use Rattle.circuit.proofs.Padding.{pad-read}
-use Rattle.targets.specs.Target.{Target, matrix, table, wants, isMatrix, rowFits, targetFits, rowIn, targetBy, targetBytes}
+use Rattle.targets.specs.Target.{Target, matrix, table, wants, isMatrix, rowFits, targetFits, rowsIn, targetBy, targetBytes}
 use Rattle.targets.specs.Wanted.{packed, maskWords, rowWords, columnWords, wantedWords, wantedOf, wantedIn}
-use Rattle.targets.proofs.Bytes.{row-back}
+use Rattle.targets.proofs.Bytes.{rows-back}
 use Rattle.targets.proofs.Fitting.{all-there}
 use Rattle.targets.proofs.Packing.{bit-packed}
 
@@ -98,10 +98,11 @@ padded-value : (n m : ℕ) (t : Target) (j : ℕ) → targetFits n m t ≡ true 
     → wantedWords (targetBy (isMatrix t) mostInputs m (padded mostValues 0 (targetBytes t))) j ≡ wantedWords t j
 unfolding wantedWords targetFits
 padded-value n m (matrix rows) j f h =
-    let bytes = padded mostValues 0 (targetBytes (matrix rows)) in
+    let bytes = targetBytes (matrix rows) in
+    let l = padded mostValues 0 bytes in
     let e = sym (eqb-true (length rows) m (both (eqb (length rows) m) f .0)) in
-    ap rowWords (upto-at (rowIn mostInputs m bytes) noRow m j h
-    ∙ ap (λ (k : ℕ). rowIn mostInputs k bytes j) e ∙ row-back mostInputs mostValues rows j (omega arith))
+    ap (λ (rs : List Row). rowWords (getD rs j noRow))
+    (ap (λ (k : ℕ). rowsIn mostInputs k l) e ∙ rows-back mostInputs rows l (λ k. pad-read bytes (mostValues - length bytes) k 0))
 padded-value n m (table entries) j f h =
     let e : (k : ℕ) → getD (padded mostValues 0 entries) k 0 ≡ getD entries k 0 = λ k. pad-read entries (mostValues - length entries) k 0 in
     λ i. record {

@@ -90,3 +90,7 @@ broughtFits n m b = bytesFit (b .ofMatrix) n m (b .bytes)
 abbrev pub targetBytes : Target → List ℕ
 targetBytes (matrix rows) = map (λ (r : Row). r .mask) rows ++ map (λ (r : Row). r .constant) rows
 targetBytes (table entries) = entries
+
+-- a target as it is brought
+abbrev pub asBrought : Target → Brought
+asBrought t = brought (isMatrix t) (targetBytes t)

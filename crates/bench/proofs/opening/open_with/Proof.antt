@@ -3,7 +3,7 @@ use mathlib.Core.Path.{_∙_, sym, ap, _≡_}
 use mathlib.Core.Bool.{true, false}
 use borrow.Author.Needs.{needs}
 use Rattle.circuit.proofs.Shapes.{Shaped}
-use Rattle.targets.specs.Target.{targetOf}
+use Rattle.targets.specs.Target.{brought}
 use Rattle.bench.specs.State.{limits}
 use Rattle.bench.specs.Parts.{placedOf}
 use Rattle.bench.proofs.OpenLaws.{read-shaped, open-refused, open-done, open-unread, open-read, open-short, open-placed}
@@ -59,7 +59,7 @@ returns c =
     let t = c .before .before in
     let k = t .before .before in
     let a = k .before .before .before .args in
-    open-refused (a .bench) (a .bytes .now) (targetOf (a .only) (a .target .now)) (limits (a .gates) (a .depth) (a .ands)) _ (c .refused .result)
+    open-refused (a .bench) (a .bytes .now) (brought (a .only) (a .target .now)) (limits (a .gates) (a .depth) (a .ands)) _ (c .refused .result)
     (open-unread (a .only) (a .bytes .now) (a .target .now) (k .read .result) (k .read .ensures) _ (t .answer .given .1)) (c .refused .ensures)
 
 returns-2 : tie.Need-returns-2
@@ -74,11 +74,12 @@ returns-2 c =
     let a = k .before .before .before .args in
     let e : limits (z .from-byte .result) (y .from-byte2 .result) (x .from-byte3 .result) ≡ limits (a .gates) (a .depth) (a .ands) =
     λ i. limits (z .from-byte .ensures i) (y .from-byte2 .ensures i) (x .from-byte3 .ensures i) in
-    open-done (a .bench) (a .bytes .now) (targetOf (a .only) (a .target .now)) (limits (a .gates) (a .depth) (a .ands)) (c .placed .result)
+    open-done (a .bench) (a .bytes .now) (brought (a .only) (a .target .now)) (limits (a .gates) (a .depth) (a .ands)) (c .placed .result)
     (open-read (a .only) (a .bytes .now) (a .target .now) (k .read .result) (k .read .ensures) (t .enum-told .given .1) true
     (sym (f .target-fits .ensures) ∙ u .if1 .taken))
     (c .placed .ensures ∙ ap (placedOf _ (a .only) (a .target .now)) e
-    ∙ open-placed (a .only) (a .bytes .now) (a .target .now) (k .read .result) (k .read .ensures) (t .enum-told .given .1) (limits (a .gates) (a .depth) (a .ands)))
+    ∙ open-placed (a .only) (a .bytes .now) (a .target .now) (k .read .result) (k .read .ensures) (t .enum-told .given .1)
+    (sym (f .target-fits .ensures) ∙ u .if1 .taken) (limits (a .gates) (a .depth) (a .ands)))
 
 returns-3 : tie.Need-returns-3
 returns-3 c =
@@ -86,7 +87,7 @@ returns-3 c =
     let t = f .before .before in
     let k = t .before .before in
     let a = k .before .before .before .args in
-    open-refused (a .bench) (a .bytes .now) (targetOf (a .only) (a .target .now)) (limits (a .gates) (a .depth) (a .ands)) _ (c .refused2 .result)
+    open-refused (a .bench) (a .bytes .now) (brought (a .only) (a .target .now)) (limits (a .gates) (a .depth) (a .ands)) _ (c .refused2 .result)
     (open-read (a .only) (a .bytes .now) (a .target .now) (k .read .result) (k .read .ensures) (t .enum-told .given .1) false
     (sym (f .target-fits .ensures) ∙ c .before .if1 .left)) (c .refused2 .ensures)
 
