@@ -1,5 +1,5 @@
 /* An open takes a bench whatever it holds: refused, it leaves every field as it was; accepted, it leaves what it leaves on a bench of zeros.
- * A sweep, an append and a hint on such a bench end and write nothing beside it; more is not promised of them there. */
+ * A sweep, an append, an entry and a hint on such a bench end and write nothing beside it; more is not promised of them there. */
 #include "../bindings/c/allpawasi.h"
 #include <string.h>
 
@@ -49,7 +49,17 @@ static void muddle(size_t n, size_t m, size_t g, int byte, int step) {
     lent.bench.g = g;
 }
 
-/* an append, hints, a sweep and an append, of the largest shapes, the smallest and some that are out of range */
+/* the first, the last and some other entry: of a matrix the constant stands m places after the mask */
+static bool is_bounded_entry(void) {
+    static const size_t entries[] = {0, 31, 32, 223, 224, 255, 256, SIZE_MAX};
+    for (size_t i = 0; i < sizeof entries / sizeof entries[0]; i++) {
+        if (allpawasi_change_entry(&lent.bench, entries[i], 1, 1).count > ALLPAWASI_LINES) return false;
+        if (allpawasi_change_entry(&lent.bench, entries[i], 0, 0).count > ALLPAWASI_LINES) return false;
+    }
+    return is_alone_written();
+}
+
+/* an append, hints, entries, a sweep and an append, of the largest shapes, the smallest and some that are out of range */
 static bool is_bounded(int byte, int step) {
     static const size_t shapes[][3] = {{8, 32, 248}, {8, 32, 247}, {1, 1, 1}, {9, 32, 248}, {8, 33, 248}, {8, 32, 249}, {0, 0, SIZE_MAX}};
     memset(&as_lent, 0xA5, sizeof as_lent);
@@ -58,6 +68,7 @@ static bool is_bounded(int byte, int step) {
         muddle(shapes[i][0], shapes[i][1], shapes[i][2], byte, step);
         if (allpawasi_append_gate(&lent.bench, 0, 0, 0).count > ALLPAWASI_LINES) return false;
         if (allpawasi_hint(&lent.bench, 0, 15).count > ALLPAWASI_SET || allpawasi_hint(&lent.bench, 31, 1).count > ALLPAWASI_SET) return false;
+        if (!is_bounded_entry()) return false;
         if (allpawasi_sweep(&lent.bench).count > ALLPAWASI_GATES) return false;
         if (allpawasi_append_gate(&lent.bench, 0, 0, 0).count > ALLPAWASI_LINES || !is_alone_written()) return false;
     }
@@ -72,7 +83,7 @@ int main(void) {
         fill(&kept, byte);
         if (refusal(&bench, marred, 4) != 3 || !same(&bench, &kept)) return 2;
         if (refusal(&bench, sound, 3) != 8 || !same(&bench, &kept)) return 3;
-        if (allpawasi_open_matrix(&bench, sound, sizeof sound, table, 1, 1, 1, 1) != 7 || !same(&bench, &kept)) return 4;
+        if (allpawasi_open_matrix(&bench, sound, sizeof sound, table, 2, 1, 1, 1) != 7 || !same(&bench, &kept)) return 4;
         if (refusal(&bench, sound, 4) != 0 || !same(&bench, &fresh)) return 5;
         if (!is_bounded(byte, 0) || !is_bounded(byte, 37)) return 6;
         if (refusal(&lent.bench, sound, 4) != 0 || !same(&lent.bench, &fresh)) return 7;

@@ -1,5 +1,5 @@
 #!/usr/bin/env bash
-# Opens, sweeps, appends and hints on a bench that no calls made: tests/any_bench.c, linked with the proved library.
+# Opens, sweeps, appends, entries and hints on a bench that no calls made: tests/any_bench.c, linked with the proved library.
 set -uo pipefail
 program=$(mktemp) || exit 1
 trap 'rm -f "$program"' EXIT

@@ -8,9 +8,10 @@
  * Change it by these calls alone. A refused call leaves it, and each lent byte, exactly as it was. An open takes a bench whatever it holds, as long as its two bools are 0 or 1:
  * accepted, it leaves the right one; refused, the one it was given.
  *
- * Refusals are the definition's numbers: 1 shape, 2 length, 3 mark, 4 kind, 5 operand, 6 no such line, 7 not XOR under a
- * matrix, 8 target, 9 depth above 15, 10 too shallow, 11 room too short, 12 not there, 13 nothing open, 15 bad text,
- * 16 name unknown, set twice or an input set, 17 no input, no output or an output gap, 18 no gate more: 248 are there. */
+ * Refusals are the definition's numbers: 1 shape, 2 length, 3 mark, 4 kind, 5 operand, 6 no such line, 7 nonlinear under a
+ * matrix (not XOR, XNOR or NOT), 8 target, 9 depth above 15, 10 too shallow, 11 room too short, 12 not there, 13 nothing
+ * open, 15 bad text, 16 name unknown, set twice or an input set, 17 no input, no output or an output gap, 18 no gate more:
+ * 248 are there. */
 #ifndef ALLPAWASI_H
 #define ALLPAWASI_H
 
@@ -26,7 +27,8 @@ typedef struct {
 } allpawasi_words;
 
 /* What stands on the bench, to look at: gate k is kinds[k], left[k], right[k]; depths, and_depths and values have an entry
- * for each of the n + g lines. */
+ * for each of the n + g lines. target has the bytes as they were brought: of a table its entries, of a matrix row j's mask at
+ * target[j] and its constant at target[m + j]. */
 typedef struct {
     bool is_open, is_matrix;
     size_t n, m, g;
@@ -64,8 +66,9 @@ typedef struct {
     uint16_t lines[ALLPAWASI_SET];
 } allpawasi_found;
 
-/* 0, or why it was refused. */
-size_t allpawasi_open_matrix(allpawasi_bench *bench, const uint8_t *bytes, size_t length, const uint8_t *rows, size_t row_count,
+/* 0, or why it was refused. rows are the masks of all m outputs and then their constants, 2m bytes: output j is to be the sum of the
+ * inputs in rows[j] and of the bit rows[m + j]. A mask of 0 is an output that is constant. */
+size_t allpawasi_open_matrix(allpawasi_bench *bench, const uint8_t *bytes, size_t length, const uint8_t *rows, size_t row_bytes,
                              uint8_t max_gates, uint8_t max_depth, uint8_t max_and_depth);
 size_t allpawasi_open_table(allpawasi_bench *bench, const uint8_t *bytes, size_t length, const uint8_t *entries, size_t entry_count,
                             uint8_t max_gates, uint8_t max_depth, uint8_t max_and_depth);
@@ -78,7 +81,8 @@ allpawasi_edit allpawasi_append_gate(allpawasi_bench *bench, size_t kind, size_t
 allpawasi_edit allpawasi_sweep(allpawasi_bench *bench);
 /* No line is examined again; the circuit's depths may be others. */
 allpawasi_edit allpawasi_point_output(allpawasi_bench *bench, size_t j, size_t line);
-allpawasi_edit allpawasi_change_entry(allpawasi_bench *bench, size_t i, size_t value);
+/* Row i of a matrix gets this mask and this constant, 0 or 1. Entry i of a table gets this value; its constant is 0. */
+allpawasi_edit allpawasi_change_entry(allpawasi_bench *bench, size_t i, size_t value, size_t constant);
 allpawasi_edit allpawasi_set_limits(allpawasi_bench *bench, uint8_t max_gates, uint8_t max_depth, uint8_t max_and_depth);
 
 allpawasi_figures allpawasi_report(const allpawasi_bench *bench);
@@ -86,10 +90,10 @@ allpawasi_figures allpawasi_report(const allpawasi_bench *bench);
 /* How many bytes stand first in the room, or 65,536 times the refusal's number. The same for restore and both builds. */
 size_t allpawasi_store(const allpawasi_bench *bench, uint8_t *room, size_t room_length);
 
-/* Reads a stored circuit and stores it again. only: no gate but XOR is allowed. */
+/* Reads a stored circuit and stores it again. only: no gate but XOR, XNOR and NOT is allowed. */
 size_t allpawasi_restore(const uint8_t *bytes, size_t length, bool only, uint8_t *room, size_t room_length);
 
-/* Builds an XOR program from a matrix and a depth limit. */
+/* Builds an XOR program from a matrix and a depth limit. A row is a mask, which is not 0; there are no constants here. */
 size_t allpawasi_build(size_t n, const uint8_t *rows, size_t row_count, size_t depth, uint8_t *room, size_t room_length);
 
 /* The same with late signals: input i has depth arrivals[i], and row j is made within limits[j]. There is an arrival for each input
@@ -102,7 +106,8 @@ allpawasi_found allpawasi_distance(size_t n, const uint8_t *masks, size_t mask_c
                                    size_t target, size_t depth);
 
 /* The same for row j of the matrix that is open, over the lines of the circuit that are at most 15 deep, by their numbers in the circuit.
- * Refused 12: the target is a table, or has no such row. */
+ * The row and the lines count by their masks; constants are not looked at. Refused 12: the target is a table, or has no such row; 8: the
+ * row's mask is 0. */
 allpawasi_found allpawasi_hint(const allpawasi_bench *bench, size_t j, size_t depth);
 
 /* Reads an equation file, one assignment a line: its stored circuit first in the room. */

@@ -1,6 +1,6 @@
-/* A designer's morning in C: build an XOR program, open it, break a gate, look, ask which lines make its row, mend it, store; build it
- * for an input that comes late; read an equation file with a slip, mend it, open it with its table; append a gate in another's place,
- * point an output at it, sweep the other out. */
+/* A designer's morning in C: build an XOR program, open it, break a gate, look, ask which lines make its row, mend it; give a row a
+ * constant and make its gate an XNOR; store; build it for an input that comes late; read an equation file with a slip, mend it, open it
+ * with its table; append a gate in another's place, point an output at it, sweep the other out. */
 #include "allpawasi.h"
 #include <stdio.h>
 #include <string.h>
@@ -46,13 +46,13 @@ static size_t read_equations(const char *text, uint8_t *room, size_t room_length
 
 int main(void) {
     static allpawasi_bench bench; /* zeros: nothing is open */
-    const uint8_t rows[] = {3, 7, 6};
+    const uint8_t rows[] = {3, 7, 6, 0, 0, 0}; /* three masks, and their constants */
     uint8_t room[1341];
 
     tell(&bench);
     size_t built = allpawasi_build(3, rows, 3, 2, room, sizeof room);
     printf("built %zu bytes\n", built);
-    printf("open %zu\n", allpawasi_open_matrix(&bench, room, built, rows, 3, 3, 2, 0));
+    printf("open %zu\n", allpawasi_open_matrix(&bench, room, built, rows, sizeof rows, 3, 2, 0));
     tell(&bench);
 
     allpawasi_edit edit = allpawasi_replace_gate(&bench, 0, 0, 0, 2);
@@ -64,6 +64,12 @@ int main(void) {
 
     printf("refused %zu\n", allpawasi_replace_gate(&bench, 0, 2, 0, 1).refusal);
     allpawasi_replace_gate(&bench, 0, 0, 0, 1);
+    tell(&bench);
+
+    allpawasi_change_entry(&bench, 2, 6, 1); /* row 2 is to be the opposite */
+    tell(&bench);
+    edit = allpawasi_replace_gate(&bench, 2, 1, 1, 2);
+    tell_lines(&edit);
     tell(&bench);
     printf("stored %zu bytes\n", allpawasi_store(&bench, room, sizeof room));
     tell_found(allpawasi_distance(3, rows, 3, (const uint8_t[]){0, 0, 0}, 3, 5, 4));

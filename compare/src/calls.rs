@@ -15,7 +15,7 @@ pub enum Call {
     Append([usize; 3]),
     Sweep,
     Output([usize; 2]),
-    Entry([usize; 2]),
+    Entry([usize; 3]),
     Limits(Limits),
     Hint([usize; 2]),
     Store(usize),
@@ -53,7 +53,7 @@ pub fn call(rng: &mut Rng, present: Option<&Present>) -> Call {
     match present {
         None => first(rng),
         Some(_) if rng.once_in(10) => open(rng),
-        Some((c, target, _)) => concerning(rng, c, target.xor_only()),
+        Some((c, target, _)) => concerning(rng, c, target.linear_only()),
     }
 }
 
@@ -149,15 +149,26 @@ fn output_edit(rng: &mut Rng, c: &Circuit) -> [usize; 2] {
     [j, pick(rng, &alike).expect("the line itself is alike")]
 }
 
-/// A row or an entry made what the circuit computes, or any numbers.
-fn entry_edit(rng: &mut Rng, c: &Circuit, matrix: bool) -> [usize; 2] {
-    let (Target::Matrix(met) | Target::Table(met)) = target_met(c, matrix);
+/// A row or an entry made what the circuit computes, now and then with the other constant, or any numbers.
+fn entry_edit(rng: &mut Rng, c: &Circuit, matrix: bool) -> [usize; 3] {
+    let met = target_met(c, matrix);
+    let entries = met.entries();
     if rng.once_in(2) {
         let top = 1 << if matrix { c.n as usize } else { c.outs.len().min(8) };
-        return [near(rng, met.len()), near(rng, top)];
+        return [near(rng, entries), near(rng, top), any_constant(rng, matrix)];
     }
-    let i = rng.below(met.len() as u64) as usize;
-    [i, met[i].into()]
+    let (i, bytes) = (rng.below(entries as u64) as usize, met.bytes());
+    let own = if matrix { bytes[entries + i] } else { 0 };
+    [i, bytes[i].into(), (own ^ rng.once_in(6) as u8).into()]
+}
+
+/// A constant for an entry edit, mostly a sound one.
+fn any_constant(rng: &mut Rng, matrix: bool) -> usize {
+    match rng.below(6) {
+        0 => [1, 2, 3, 255, 256, 1 << 32, usize::MAX][rng.below(7) as usize],
+        _ if matrix => rng.below(2) as usize,
+        _ => 0,
+    }
 }
 
 /// A row's number, mostly one that is there, and a depth: mostly one that binds, or any.

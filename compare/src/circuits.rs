@@ -2,7 +2,7 @@
 
 use crate::duplicates::{with_duplicates, without_duplicates};
 use crate::hints::program;
-use reference::circuit::{write, Circuit, Gate};
+use reference::circuit::{write, Circuit, Gate, NOT, XNOR, XOR};
 use reference::examine::work;
 use reference::rng::Rng;
 
@@ -19,7 +19,7 @@ pub fn xor_program(n: u8, gates: &[[u8; 2]], outs: &[u8]) -> Vec<u8> {
     bytes
 }
 
-/// A sound circuit with these numbers of inputs, gates and outputs. `only`: no gate but XOR.
+/// A sound circuit with these numbers of inputs, gates and outputs. `only`: no gate but XOR, XNOR and NOT.
 pub fn circuit(rng: &mut Rng, n: u8, g: usize, m: usize, only: bool) -> Circuit {
     let gates = (0..g).map(|k| gate(rng, n as usize + k, only)).collect();
     let outs = (0..m).map(|_| rng.below((n as usize + g) as u64) as u8).collect();
@@ -28,9 +28,9 @@ pub fn circuit(rng: &mut Rng, n: u8, g: usize, m: usize, only: bool) -> Circuit 
 
 /// A sound gate for a line.
 pub fn gate(rng: &mut Rng, line: usize, only: bool) -> Gate {
-    let kind = if only { 0 } else { rng.below(7) as u8 };
+    let kind = if only { [XOR, XOR, XNOR, NOT][rng.below(4) as usize] } else { rng.below(7) as u8 };
     let a = rng.below(line as u64) as u8;
-    let b = if kind == 6 { 0 } else { rng.below(line as u64) as u8 };
+    let b = if kind == NOT { 0 } else { rng.below(line as u64) as u8 };
     Gate { kind, a, b }
 }
 
@@ -47,8 +47,8 @@ pub fn any_circuit(rng: &mut Rng, only: bool) -> Circuit {
     circuit(rng, n, g, m, only)
 }
 
-/// A circuit to open: mostly an XOR program whose every output sums some input, for a matrix; mostly one of eight outputs at
-/// most, for a table; often one with trial gates or with copies of gates, and for a matrix one with deep lines before shallow ones.
+/// A circuit to open: mostly a linear one, for a matrix; mostly one of eight outputs at most, for a table; often one with trial
+/// gates or with copies of gates, and for a matrix one with deep lines before shallow ones.
 pub fn sketch(rng: &mut Rng, matrix: bool) -> Circuit {
     match rng.below(8) {
         0 | 1 => return with_trial_gates(rng, matrix),
@@ -58,11 +58,7 @@ pub fn sketch(rng: &mut Rng, matrix: bool) -> Circuit {
     }
     if matrix {
         let only = !rng.once_in(12);
-        let mut c = any_circuit(rng, only);
-        if !rng.once_in(12) {
-            point_at_sums(rng, &mut c);
-        }
-        return c;
+        return any_circuit(rng, only);
     }
     if rng.once_in(12) {
         return any_circuit(rng, false);
@@ -90,7 +86,7 @@ pub fn size(rng: &mut Rng, matrix: bool) -> (usize, usize) {
 }
 
 /// A circuit whose outputs name none of its deepest lines, or none of those with the greatest AND depth; half of the time each
-/// gate reads the line before it, so that there are deep ones. No output is 0 on every input.
+/// gate reads the line before it, so that there are deep ones.
 pub fn with_trial_gates(rng: &mut Rng, matrix: bool) -> Circuit {
     let (n, (g, m), chained) = (rng.between(1, 8) as u8, size(rng, matrix), rng.once_in(2));
     let mut c = circuit(rng, n, g, m, matrix);
@@ -101,18 +97,9 @@ pub fn with_trial_gates(rng: &mut Rng, matrix: bool) -> Circuit {
     let depths = if matrix || rng.once_in(2) { &lines.depths } else { &lines.and_depths };
     let greatest = depths.iter().copied().max().unwrap_or(0);
     let bound = rng.below(greatest.max(1).into()) as u8;
-    let may_be_named = |&line: &usize| depths[line] <= bound && lines.values[line] != [0; 4];
-    let named: Vec<usize> = (0..c.lines()).filter(may_be_named).collect();
+    let named: Vec<usize> = (0..c.lines()).filter(|&line| depths[line] <= bound).collect();
     c.outs.fill_with(|| pick(rng, &named).expect("the inputs are named") as u8);
     c
-}
-
-/// Points each output at a line that is 0 on every input at an input instead: no row of a matrix is 0.
-pub fn point_at_sums(rng: &mut Rng, c: &mut Circuit) {
-    let lines = work(c);
-    for out in c.outs.iter_mut().filter(|out| lines.values[**out as usize] == [0; 4]) {
-        *out = rng.below(c.n.into()) as u8;
-    }
 }
 
 /// The gates that no output reads, directly or through others.

@@ -32,8 +32,8 @@ fn copy(rng: &mut Rng, line: u8, zero: u8, matrix: bool) -> Gate {
     }
 }
 
-/// A circuit that ends in copies of lines before them, mostly each of the last line, so that they are deep. Its outputs name lines
-/// that are not 0 on every input.
+/// A circuit that ends in copies of lines before them, mostly each of the last line, so that they are deep. Its outputs name any
+/// lines.
 fn with_copies(rng: &mut Rng, matrix: bool) -> Circuit {
     let (n, (g, m)) = (rng.between(1, 8) as u8, size(rng, matrix));
     let own = if rng.once_in(2) { 0 } else { rng.below(g as u64 / 2) as usize };
@@ -48,9 +48,8 @@ fn with_copies(rng: &mut Rng, matrix: bool) -> Circuit {
         c.gates.push(copy(rng, line, zero, matrix));
         line = (c.lines() - 1) as u8;
     }
-    let lines = work(&c);
-    let named: Vec<usize> = (0..c.lines()).filter(|&line| lines.values[line] != [0; 4]).collect();
-    c.outs.fill_with(|| pick(rng, &named).expect("the inputs are named") as u8);
+    let lines = c.lines() as u64;
+    c.outs.fill_with(|| rng.below(lines) as u8);
     c
 }
 

@@ -1,9 +1,9 @@
 //! Random circuits for a sweep: gates that are equal to ones before them once their operands are merged, in either order, and
 //! circuits that have none of these.
 
-use crate::circuits::{circuit, gate, pick, point_at_sums, size};
+use crate::circuits::{circuit, gate, pick, size};
 use reference::circuit::{Circuit, Gate, NOT};
-use reference::examine::{second_read, work};
+use reference::examine::second_read;
 use reference::rng::Rng;
 
 /// A gate with its operands in the other order; a NOT as it is.
@@ -79,7 +79,7 @@ impl Growing {
 }
 
 /// A circuit in which some gates are copies of others, few or most of them. Most outputs name lines that no gate reads, so that much
-/// is reached; under a matrix none is 0 on every input.
+/// is reached.
 pub fn with_duplicates(rng: &mut Rng, matrix: bool) -> Circuit {
     let (n, (g, m)) = (rng.between(1, 8) as u8, size(rng, matrix));
     let c = Circuit { n, gates: Vec::new(), outs: vec![0; m] };
@@ -98,14 +98,11 @@ pub fn with_duplicates(rng: &mut Rng, matrix: bool) -> Circuit {
     for (j, out) in c.outs.iter_mut().enumerate() {
         *out = if rng.once_in(4) { any(rng) } else { ends.get(j).copied().unwrap_or_else(|| any(rng)) };
     }
-    if matrix {
-        point_at_sums(rng, &mut c);
-    }
     c
 }
 
 /// A circuit of two inputs at least that a sweep leaves as it is: each gate reads the line before its own, so no two are equal, and
-/// an output names the last. That is not 0 on every input, and under a matrix no other is.
+/// an output names the last.
 pub fn without_duplicates(rng: &mut Rng, n: u8, g: usize, m: usize, matrix: bool) -> Circuit {
     let mut c = circuit(rng, n, g, m, matrix);
     for (gate, before) in c.gates.iter_mut().zip(n - 1..) {
@@ -113,12 +110,6 @@ pub fn without_duplicates(rng: &mut Rng, n: u8, g: usize, m: usize, matrix: bool
         *(if turned { &mut gate.b } else { &mut gate.a }) = before;
     }
     let last = c.lines() - 1;
-    while work(&c).values[last] == [0; 4] {
-        c.gates[g - 1] = Gate { b: last as u8 - 1, ..gate(rng, last, true) };
-    }
-    if matrix {
-        point_at_sums(rng, &mut c);
-    }
     c.outs[rng.below(m as u64) as usize] = last as u8;
     c
 }

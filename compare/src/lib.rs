@@ -3,6 +3,7 @@
 
 pub mod calls;
 pub mod circuits;
+pub mod constants;
 pub mod depths;
 pub mod duplicates;
 pub mod edges;

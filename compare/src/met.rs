@@ -8,8 +8,8 @@ use crate::calls::Present;
 use crate::found::Found;
 use crate::swept::{self, OF_A_GATE, OF_A_SWEEP};
 use allpawasi::Verdict;
-use reference::circuit::{check_gate, MAX_GATES};
-use reference::examine::{examine, work, Verdict as TheirVerdict};
+use reference::circuit::{check_gate, MAX_GATES, NOT, XNOR};
+use reference::examine::{examine, work, Target, Verdict as TheirVerdict};
 use reference::listing;
 
 /// The kinds of answer that are told apart.
@@ -55,8 +55,42 @@ pub const APPENDED: [&str; 6] =
     ["full, else done", "full, else refused 4", "full, else refused 5", "full, else refused 7", "in room of a sweep", "the last"];
 
 /// Why there is no row for a hint, and where the number of a line is not its place in the base: lines that are deeper than 15 stand
-/// before others, or before one that is answered.
-pub const HINTED: [&str; 4] = ["no rows, a table", "no such row", "past lines too deep", "past lines too deep, and answered"];
+/// before others, or before one that is answered. Then what is so of constants: a row or a line that is answered has one, or the row
+/// has nothing else, with a depth that would be refused too.
+pub const HINTED: [&str; 7] = [
+    "no rows, a table",
+    "no such row",
+    "past lines too deep",
+    "past lines too deep, and answered",
+    "a row of constant 1",
+    "a line of constant 1, and answered",
+    "mask 0, and D above 15",
+];
+
+/// What a verdict under a matrix comes from: at input value 0 only constants can differ.
+pub const UNDER_A_MATRIX: [&str; 7] = [
+    "wrong by a constant",
+    "wrong by a mask",
+    "right, a constant 1",
+    "right, a mask 0 of constant 0",
+    "right, a mask 0 of constant 1",
+    "right, an XNOR",
+    "right, a NOT",
+];
+
+/// What is wrong with a target that is refused.
+pub const REFUSED_TARGET: [&str; 5] = ["a matrix without constants", "a matrix of another length", "a mask", "a constant", "a table"];
+
+/// What an entry edit is that names an entry: done under a matrix, or refused there or under a table.
+pub const ENTERED: [&str; 7] = [
+    "done, a constant 1",
+    "done, a mask 0",
+    "done, the constant alone another",
+    "refused for a row's constant",
+    "refused for a table's constant",
+    "refused for its value",
+    "refused for its value and its constant",
+];
 
 /// A distance that was found, or that there is none.
 pub fn gates(found: &Option<Found>) -> Kind {
@@ -130,7 +164,7 @@ impl Met {
     /// Counts an append to this, whatever it is answered.
     pub fn appended(&mut self, (c, target, _): &Present, numbers: [usize; 3]) {
         let [kind, a, b] = numbers.map(|number| number as u64);
-        let gate = check_gate(target.xor_only(), c.lines() as u64, kind, a, b);
+        let gate = check_gate(target.linear_only(), c.lines() as u64, kind, a, b);
         let (most, g) = (MAX_GATES as usize, c.gates.len());
         let full = gate.map_or_else(|number| format!("full, else refused {number}"), |()| APPENDED[0].to_string());
         self.say("an append", &full, (g == most) as usize);
@@ -141,16 +175,66 @@ impl Met {
         }
     }
 
-    /// Counts a hint on this: how far the row is, or that there is none, and what is so of the lines' numbers.
-    pub fn hinted(&mut self, (c, target, _): &Present, answer: &Result<Option<Found>, usize>) {
-        self.say("a hint", HINTED[target.xor_only() as usize], (*answer == Err(12)) as usize);
+    /// Counts a hint on this: how far the row is, or that there is none, and what is so of constants and of the lines' numbers.
+    pub fn hinted(&mut self, (c, target, _): &Present, [j, d]: [usize; 2], answer: &Result<Option<Found>, usize>) {
+        self.say("a hint", HINTED[target.linear_only() as usize], (*answer == Err(12)) as usize);
+        self.say("a hint", HINTED[6], (*answer == Err(8) && d > 15) as usize);
         let Ok(found) = answer else { return };
         self.count("a hint", gates(found));
-        let depths = work(c).depths;
+        let (lines, constant) = (work(c), target.bytes()[target.entries() + j]);
+        let has_one = |found: &Found| found.1.iter().any(|&line| lines.value(line.into(), 0));
+        self.say("a hint", HINTED[4], constant.into());
+        self.say("a hint", HINTED[5], found.as_ref().is_some_and(has_one) as usize);
+        let depths = &lines.depths;
         let Some(deep) = depths.iter().position(|&depth| depth > 15) else { return };
         self.say("a hint", HINTED[2], depths[deep..].iter().any(|&depth| depth <= 15) as usize);
         let answered = |found: &Found| found.1.iter().any(|&line| line as usize > deep);
         self.say("a hint", HINTED[3], found.as_ref().is_some_and(answered) as usize);
+    }
+
+    /// Counts what a verdict under a matrix comes from, or which rows and gates are right.
+    pub fn under_a_matrix(&mut self, (c, target, _): &Present, verdict: &TheirVerdict) {
+        let Target::Matrix { masks, constants } = target else { return };
+        let has_row = |mask: u8, constant: u8| masks.iter().zip(constants).any(|row| row == (&mask, &constant));
+        let has_gate = |kind: u8| c.gates.iter().any(|gate| gate.kind == kind);
+        let so = match verdict {
+            TheirVerdict::Wrong { input, .. } => [*input == 0, *input > 0, false, false, false, false, false],
+            _ => [false, false, constants.contains(&1), has_row(0, 0), has_row(0, 1), has_gate(XNOR), has_gate(NOT)],
+        };
+        UNDER_A_MATRIX.iter().zip(so).for_each(|(words, so)| self.say("under a matrix", words, so as usize));
+    }
+
+    /// Counts what is wrong with a target that was refused with these stored bytes, whose records are sound.
+    pub fn refused_target(&mut self, stored: &[u8], target: &Target) {
+        let (n, m) = (stored[2], stored[3] as usize);
+        let words = match target {
+            Target::Table(_) => REFUSED_TARGET[4],
+            Target::Matrix { .. } if target.bytes().len() == m => REFUSED_TARGET[0],
+            Target::Matrix { masks, constants } if masks.len() != m || constants.len() != m => REFUSED_TARGET[1],
+            Target::Matrix { masks, .. } if masks.iter().any(|&mask| u32::from(mask) >= 1 << n) => REFUSED_TARGET[2],
+            Target::Matrix { .. } => REFUSED_TARGET[3],
+        };
+        self.say("a target refused", words, 1);
+    }
+
+    /// Counts an entry edit of this, whatever it is answered.
+    pub fn entered(&mut self, (c, target, _): &Present, [i, value, constant]: [usize; 3]) {
+        let (entries, matrix, bytes) = (target.entries(), target.linear_only(), target.bytes());
+        if i >= entries {
+            return;
+        }
+        let value_fits = value < 1 << if matrix { c.n.into() } else { c.outs.len() };
+        let (constant_fits, is_row) = (constant <= matrix as usize, matrix && value_fits && constant <= 1);
+        let so = [
+            is_row && constant == 1,
+            is_row && value == 0,
+            is_row && value == bytes[i].into() && constant != bytes[entries + i].into(),
+            value_fits && !constant_fits && matrix,
+            value_fits && !constant_fits && !matrix,
+            !value_fits && constant_fits,
+            !value_fits && !constant_fits,
+        ];
+        ENTERED.iter().zip(so).for_each(|(words, so)| self.say("an entry", words, so as usize));
     }
 
     /// Another circuit is open: the room that a sweep made was not in this one.
@@ -235,6 +319,13 @@ impl Met {
         self.said_at_least("a hint", &HINTED, least);
     }
 
+    /// Rows with constants were right and wrong, refused, and edited, each in all its ways, so often at least.
+    pub fn constants(&self, least: usize) {
+        self.said_at_least("under a matrix", &UNDER_A_MATRIX, least);
+        self.said_at_least("a target refused", &REFUSED_TARGET, least);
+        self.said_at_least("an entry", &ENTERED, least);
+    }
+
     /// Each call on a bench was refused with each of its numbers, and each verdict was given often.
     pub fn whole_bench(&self) {
         self.done_and_refused("open", &[1, 2, 3, 4, 5, 6, 7, 8]);
@@ -244,7 +335,7 @@ impl Met {
         self.done_and_refused("output", &[6, 12, 13]);
         self.done_and_refused("entry", &[8, 12, 13]);
         self.done_and_refused("limits", &[13]);
-        self.done_and_refused("hint", &[9, 12, 13]);
+        self.done_and_refused("hint", &[8, 9, 12, 13]);
         self.done_and_refused("store", &[11, 13]);
         self.done_and_refused("report", &[13]);
         self.verdicts();

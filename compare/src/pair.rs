@@ -41,7 +41,7 @@ fn our_limits(limits: &TheirLimits) -> Limits {
 /// An open on our bench.
 fn open(bench: &mut Bench, bytes: &[u8], target: &Target, limits: Limits) -> Result<(), usize> {
     match target {
-        Target::Matrix(rows) => bench.open_matrix(bytes, rows, limits),
+        Target::Matrix { .. } => bench.open_matrix(bytes, &target.bytes(), limits),
         Target::Table(entries) => bench.open_table(bytes, entries, limits),
     }
 }
@@ -93,7 +93,7 @@ impl Pair {
             Call::Append(numbers) => drop(self.append_gate(*numbers)),
             Call::Sweep => drop(self.sweep()),
             Call::Output([j, line]) => drop(self.point_output(*j, *line)),
-            Call::Entry([i, value]) => self.change_entry(*i, *value),
+            Call::Entry(numbers) => drop(self.change_entry(*numbers)),
             Call::Limits(limits) => self.set_limits(*limits),
             Call::Hint(numbers) => drop(self.hint(*numbers)),
             Call::Store(length) => self.store(*length),
@@ -119,11 +119,20 @@ impl Pair {
     }
 
     pub fn open(&mut self, bytes: &[u8], target: &Target, limits: Limits) {
+        self.try_open(bytes, target, limits).ok();
+    }
+
+    /// An open, and its refusal where it is refused.
+    pub fn try_open(&mut self, bytes: &[u8], target: &Target, limits: Limits) -> Result<(), usize> {
         let call = if bytes.starts_with(b"SH") && bytes.len() >= 5 { "open" } else { SHAPELESS };
         let theirs = |bench: &mut Reference| widen(bench.open(bytes, target.clone(), their_limits(limits)));
-        if self.both(call, (bytes, target), |bench| open(bench, bytes, target, limits), theirs).is_ok() {
-            self.met.opened();
+        let answer = self.both(call, (bytes, target), |bench| open(bench, bytes, target, limits), theirs);
+        match answer {
+            Ok(()) => self.met.opened(),
+            Err(8) => self.met.refused_target(bytes, target),
+            Err(_) => {}
         }
+        answer
     }
 
     /// The lines that were reworked, or the refusal.
@@ -157,7 +166,7 @@ impl Pair {
     }
 
     /// Every number on our bench is that of one on which their circuit, target and limits were opened just now.
-    fn as_opened_afresh(&self) {
+    pub fn as_opened_afresh(&self) {
         let Some((c, target, limits)) = &self.theirs.present else { return };
         let mut fresh = Bench::new();
         assert_eq!(open(&mut fresh, &write(c), target, our_limits(limits)), Ok(()));
@@ -170,9 +179,13 @@ impl Pair {
         self.both("output", [j, line], |bench| bench.point_output(j, line), theirs)
     }
 
-    pub fn change_entry(&mut self, i: usize, value: usize) {
-        let theirs = |bench: &mut Reference| lines(bench.change_entry(i as u64, value as u64));
-        self.both("entry", [i, value], |bench| bench.change_entry(i, value), theirs).ok();
+    /// The lines that were reworked, which are none, or the refusal.
+    pub fn change_entry(&mut self, [i, value, constant]: [usize; 3]) -> Result<Vec<u16>, usize> {
+        if let Some(present) = &self.theirs.present {
+            self.met.entered(present, [i, value, constant]);
+        }
+        let theirs = |bench: &mut Reference| lines(bench.change_entry(i as u64, value as u64, constant as u64));
+        self.both("entry", [i, value, constant], |bench| bench.change_entry(i, value, constant), theirs)
     }
 
     pub fn set_limits(&mut self, limits: Limits) {
@@ -187,7 +200,7 @@ impl Pair {
         let answer = self.both("hint", [j, d], |bench| found::ours(bench.hint(j, d)), theirs);
         assert!(self.ours == before, "a hint for row {j} within {d} changes the bench");
         if let Some(present) = &self.theirs.present {
-            self.met.hinted(present, &answer);
+            self.met.hinted(present, [j, d], &answer);
         }
         answer
     }
@@ -201,17 +214,18 @@ impl Pair {
 
     /// The report, the stored bytes and what is held for every line.
     pub fn look(&mut self) {
-        let ours = self.ours.report();
-        assert_eq!(ours, widen(self.theirs.report()).map(our_report), "report");
+        let (ours, theirs) = (self.ours.report(), self.theirs.report());
+        assert_eq!(ours, widen(theirs).map(our_report), "report");
         let verdict = |report: &Report| met::verdict(&report.verdict);
         self.met.answer("report", &ours, verdict);
         match &self.theirs.present {
-            Some((_, Target::Matrix(_), _)) => self.met.answer("report under a matrix", &ours, verdict),
+            Some((_, Target::Matrix { .. }, _)) => self.met.answer("report under a matrix", &ours, verdict),
             Some((_, Target::Table(_), _)) => self.met.answer("report under a table", &ours, verdict),
             None => {}
         }
-        if let Some(present) = &self.theirs.present {
+        if let (Some(present), Ok(report)) = (&self.theirs.present, &theirs) {
             self.met.left_out("left out of a report", present);
+            self.met.under_a_matrix(present, &report.verdict);
         }
         self.store(1341);
         self.held();

@@ -8,7 +8,6 @@ use crate::met::{Kind, Met};
 use allpawasi::Limits;
 use reference::bench::Bench;
 use reference::desk;
-use reference::examine::Target;
 use reference::rng::Rng;
 
 fn hex(rng: &mut Rng, bytes: &[u8]) -> String {
@@ -44,20 +43,22 @@ fn limits(rng: &mut Rng, limits: &Limits) -> String {
     typed(rng, &numbers)
 }
 
-/// A call on the bench, by its name and as a line.
+/// An entry without its constant, and with it.
+pub const ENTRY_TYPED: [&str; 2] = ["a number and a value", "a number, a value and a constant"];
+
+/// A call on the bench, by its name and as a line. A constant of 0 is left out half of the time.
 fn on_bench(rng: &mut Rng, call: &Call) -> (&'static str, String) {
     match call {
         Call::Open(bytes, target, three) => {
-            let (kind, list) = match target {
-                Target::Matrix(rows) => ("matrix", rows),
-                Target::Table(entries) => ("table", entries),
-            };
-            ("open", format!("open {} {kind} {} {}", hex(rng, bytes), hex(rng, list), limits(rng, three)))
+            let kind = if target.linear_only() { "matrix" } else { "table" };
+            let list = hex(rng, &target.bytes());
+            ("open", format!("open {} {kind} {list} {}", hex(rng, bytes), limits(rng, three)))
         }
         Call::Gate(numbers) => ("gate", format!("gate {}", typed(rng, numbers))),
         Call::Append(numbers) => ("append", format!("append {}", typed(rng, numbers))),
         Call::Sweep => ("sweep", "sweep".to_string()),
         Call::Output(numbers) => ("output", format!("output {}", typed(rng, numbers))),
+        Call::Entry([i, value, 0]) if rng.once_in(2) => ("entry", format!("entry {}", typed(rng, &[*i, *value]))),
         Call::Entry(numbers) => ("entry", format!("entry {}", typed(rng, numbers))),
         Call::Hint(numbers) => ("hint", format!("hint {}", typed(rng, numbers))),
         Call::Limits(three) => ("limits", format!("limits {}", limits(rng, three))),
@@ -166,17 +167,35 @@ fn hinted(bench: &Bench, line: &[u8]) -> Result<Option<Found>, usize> {
     theirs(bench.hint(j, d))
 }
 
+/// What an entry that is typed brings; a constant left out is 0. With how many words it is typed is counted.
+fn entered(met: &mut Met, line: &[u8]) -> [usize; 3] {
+    let words = String::from_utf8_lossy(line).split_whitespace().count();
+    met.say("an entry typed", if words == 3 { ENTRY_TYPED[0] } else { ENTRY_TYPED[1] }, 1);
+    if words == 3 {
+        let [i, value] = numbers(line);
+        return [i, value, 0];
+    }
+    numbers(line)
+}
+
 /// What a line should be answered, counted by the call's name; of a report or a listing also what it leaves out, of a sweep, an
-/// append and a hint what they meet.
+/// append, a hint and an entry what they meet.
 fn count(met: &mut Met, bench: &mut Bench, name: &'static str, line: &[u8]) {
     let before = bench.present.clone();
     let kind = kind(&desk::answer(bench, line));
     match (name, &before, &bench.present) {
-        ("report", _, Some(present)) => met.left_out("left out of a report", present),
+        ("report", _, Some(present)) => {
+            met.left_out("left out of a report", present);
+            met.under_a_matrix(present, &bench.report().expect("something is open").verdict);
+        }
         ("show", _, Some(present)) => met.left_out("left out of a show", present),
         ("sweep", Some(before), Some(after)) => met.swept(before, after),
         ("append", Some(before), _) => met.appended(before, numbers(line)),
-        ("hint", _, Some(present)) => met.hinted(present, &hinted(bench, line)),
+        ("hint", _, Some(present)) => met.hinted(present, numbers(line), &hinted(bench, line)),
+        ("entry", Some(before), _) => {
+            let brought = entered(met, line);
+            met.entered(before, brought);
+        }
         ("open" | "new", _, _) if kind == Kind::Done => met.opened(),
         _ => {}
     }

@@ -5,37 +5,64 @@ use reference::circuit::Circuit;
 use reference::examine::{work, Target};
 use reference::rng::Rng;
 
-/// The target that a circuit meets: its outputs on every input value, or on those that are one input alone. A table has eight outputs
-/// at most.
+/// The target that a circuit meets: its outputs on every input value, or for each output what it is on input value 0 and the inputs
+/// that alone make it another. A table has eight outputs at most.
 pub fn target_met(c: &Circuit, matrix: bool) -> Target {
     let lines = work(c);
     let output = |x: usize, j: usize| lines.value(c.outs[j].into(), x) as u8;
     if matrix {
-        let row = |j| (0..c.n.into()).map(|i| output(1 << i, j) << i).sum();
-        Target::Matrix((0..c.outs.len()).map(row).collect())
+        let mask = |j| (0..c.n.into()).map(|i| (output(1 << i, j) ^ output(0, j)) << i).sum();
+        let outputs = 0..c.outs.len();
+        Target::Matrix { masks: outputs.clone().map(mask).collect(), constants: outputs.map(|j| output(0, j)).collect() }
     } else {
         let entry = |x| (0..c.outs.len().min(8)).map(|j| output(x, j) << j).sum();
         Target::Table((0..1 << c.n).map(entry).collect())
     }
 }
 
-/// The target that a circuit meets, most of the time; or that with one bit or byte another, or with a byte more or less; or other
-/// rows altogether.
+/// A target out of its bytes, as they are brought.
+pub fn target_of(bytes: Vec<u8>, matrix: bool) -> Target {
+    if matrix {
+        Target::matrix(&bytes)
+    } else {
+        Target::Table(bytes)
+    }
+}
+
+/// So many rows as they are brought: any masks, now and then none of the inputs, and then any constants.
+pub fn any_rows(rng: &mut Rng, n: u8, m: usize) -> Vec<u8> {
+    let mut rows = rng.rows(n.into(), m as u64);
+    rows.iter_mut().for_each(|mask| *mask *= !rng.once_in(8) as u8);
+    rows.extend((0..m).map(|_| rng.below(2) as u8));
+    rows
+}
+
+/// The target that a circuit meets, most of the time; or that with one bit or byte another, or with a byte more or less, or without
+/// the constants of its rows; or other rows altogether.
 pub fn near_target(rng: &mut Rng, c: &Circuit, matrix: bool) -> Target {
-    let mut target = target_met(c, matrix);
-    let (Target::Matrix(bytes) | Target::Table(bytes)) = &mut target;
+    let (mut bytes, m) = (target_met(c, matrix).bytes(), c.outs.len());
     let at = rng.below(bytes.len() as u64) as usize;
     match rng.below(16) {
-        0 => bytes.push(1),
+        0 => bytes.push(rng.below(2) as u8),
         1 => {
             bytes.pop();
         }
         2 => bytes[at] = rng.below(256) as u8,
-        3 | 4 if matrix && rng.once_in(2) => *bytes = rng.rows(c.n.into(), c.outs.len() as u64),
-        3 | 4 => bytes[at] ^= 1 << rng.below(if matrix { c.n.into() } else { c.outs.len().min(8) as u64 }),
+        3 | 4 if matrix && rng.once_in(2) => bytes = any_rows(rng, c.n, m),
+        3 | 4 => bytes[at] ^= 1 << rng.below(bits(c, matrix, at)),
+        5 if matrix && rng.once_in(2) => bytes.truncate(m),
         _ => {}
     }
-    target
+    target_of(bytes, matrix)
+}
+
+/// How many bits a sound byte has in this place of a circuit's target: of an entry, of a mask or of a constant.
+fn bits(c: &Circuit, matrix: bool, at: usize) -> u64 {
+    match c.outs.len() {
+        m if !matrix => m.min(8) as u64,
+        m if at < m => c.n.into(),
+        _ => 1,
+    }
 }
 
 fn any_limits(rng: &mut Rng) -> Limits {

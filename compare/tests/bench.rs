@@ -33,6 +33,7 @@ fn random_sequences() {
     pair.met.sweeps(50);
     pair.met.said_at_least("an append", &APPENDED[..5], 50);
     pair.met.hints(4, 40);
+    pair.met.constants(200);
 }
 
 fn limits(gates: u8, depth: u8, and_depth: u8) -> Limits {
@@ -56,7 +57,7 @@ fn an_and_made_nand() {
     assert_eq!(report(&mut pair).verdict, Verdict::Wrong { input: 0, output: 0 });
     for (i, value) in [1, 1, 1, 0].into_iter().enumerate() {
         assert_ne!(report(&mut pair).verdict, Verdict::Pass);
-        pair.change_entry(i, value);
+        assert_eq!(pair.change_entry([i, value, 0]), Ok(vec![]));
     }
     assert_eq!(report(&mut pair).verdict, Verdict::Pass);
 }
@@ -66,7 +67,7 @@ fn an_and_made_nand() {
 fn a_gate_that_feeds_nothing() {
     let mut pair = Pair::default();
     let bytes = [0x53, 0x48, 2, 1, 2, 0x47, 0x54, 0, 0, 1, 0x47, 0x54, 0, 0, 2, 0x4F, 0x50, 2];
-    pair.open(&bytes, &Target::Matrix(vec![3]), limits(2, 1, 0));
+    pair.open(&bytes, &Target::sums(&[3]), limits(2, 1, 0));
     let opened = report(&mut pair);
     assert_eq!((opened.verdict, opened.depth), (Verdict::Pass, 1));
     assert_eq!(pair.point_output(0, 3), Ok(vec![]));
@@ -212,7 +213,7 @@ fn appends_are_refused_in_order() {
     let worst = [usize::MAX; 3];
     assert_eq!((pair.append_gate(worst), pair.sweep()), (Err(13), Err(13)));
     let c = listed(8, &[[XOR, 6, 7]; 247], &[]);
-    pair.open(&write(&c), &Target::Matrix(vec![192]), limits(0, 0, 0));
+    pair.open(&write(&c), &Target::sums(&[192]), limits(0, 0, 0));
     assert_eq!(pair.append_gate(worst), Err(4));
     assert_eq!(pair.append_gate([7, 0, 0]), Err(4));
     assert_eq!(pair.append_gate([AND.into(), 255, 0]), Err(5));
@@ -242,10 +243,11 @@ fn hints_past_deep_lines() {
         pair.look();
     }
     pair.met.show("hints past deep lines");
-    pair.met.said_at_least("a hint", &HINTED[1..], 300);
+    pair.met.said_at_least("a hint", &HINTED[1..6], 300);
+    pair.met.said_at_least("a hint", &HINTED[6..], 15);
     pair.met.said_at_least("a hint", &["none", "0", "1", "2", "3", "4", "5"], 100);
     pair.met.said_at_least("a set", &OF_A_SET, 80);
-    pair.met.refused("hint", &[9, 12]);
+    pair.met.refused("hint", &[8, 9, 12]);
 }
 
 /// A hint, and the query that it is; what is remarkable about the set that both find is counted.
@@ -272,7 +274,7 @@ fn hints_around_the_deepest_line() {
     for depth in 1..=20 {
         let gates: Vec<[u8; 3]> = (1..=depth).map(|link| [XOR, 6 + link, (link == depth).into()]).collect();
         let odd = depth % 2 == 1;
-        pair.open(&write(&listed(8, &gates, &[])), &Target::Matrix(vec![if odd { 130 } else { 131 }]), limits(0, 0, 0));
+        pair.open(&write(&listed(8, &gates, &[])), &Target::sums(&[if odd { 130 } else { 131 }]), limits(0, 0, 0));
         for d in 0..=15 {
             let expected = match d {
                 _ if depth <= d => Some((0, vec![u16::from(7 + depth)])),
@@ -293,7 +295,7 @@ fn a_hint_at_each_line() {
     for at in 8..=255u8 {
         let before = |line: u8| if line - 1 == at { line - 2 } else { line - 1 };
         let gates: Vec<[u8; 3]> = (8..=255).map(|line| if line == at { [XOR, 0, 1] } else { [XOR, before(line), 7] }).collect();
-        pair.open(&write(&listed(8, &gates, &[0])), &Target::Matrix(vec![3, 7]), limits(248, 255, 0));
+        pair.open(&write(&listed(8, &gates, &[0])), &Target::sums(&[3, 7]), limits(248, 255, 0));
         let (alone, with_input) = (Ok(Some((0, vec![at.into()]))), Ok(Some((1, vec![2, at.into()]))));
         assert_eq!([0, 1, 15].map(|d| pair.hint([0, d])), [Ok(None), alone.clone(), alone], "line {at}");
         assert_eq!([1, 2, 15].map(|d| pair.hint([1, d])), [Ok(None), with_input.clone(), with_input], "line {at}");
@@ -301,7 +303,7 @@ fn a_hint_at_each_line() {
     pair.met.show("a hint at each line of a chain");
 }
 
-/// What is there to refuse is refused in this order: 13, 12, 9; whatever the numbers are, on a bench of zeros too.
+/// What is there to refuse is refused in this order: 13, 12, 8, 9; whatever the numbers are, on a bench of zeros too.
 #[test]
 fn hints_are_refused_in_order() {
     let mut pair = Pair::default();
@@ -314,8 +316,13 @@ fn hints_are_refused_in_order() {
     all(&mut pair, &|_, _| Some(13));
     pair.open(&write(&listed(2, &[[AND, 0, 1]], &[])), &Target::Table(vec![0, 0, 0, 1]), limits(9, 9, 9));
     all(&mut pair, &|_, _| Some(12));
-    pair.open(&write(&listed(2, &[[XOR, 0, 1]], &[0])), &Target::Matrix(vec![3, 1]), limits(9, 9, 9));
+    let two = write(&listed(2, &[[XOR, 0, 1]], &[0]));
+    pair.open(&two, &Target::sums(&[3, 1]), limits(9, 9, 9));
     all(&mut pair, &|j, d| if j > 1 { Some(12) } else { (d > 15).then_some(9) });
+    for constants in [[0, 0], [0, 1], [1, 0], [1, 1]] {
+        pair.open(&two, &Target::Matrix { masks: vec![3, 0], constants: constants.to_vec() }, limits(9, 9, 9));
+        all(&mut pair, &|j, d| [(d > 15).then_some(9), Some(8)].get(j).copied().unwrap_or(Some(12)));
+    }
 }
 
 /// A chain of 248 gates, each of which reads the line before it: the depth of gate k is k + 1.
@@ -353,12 +360,12 @@ fn the_edges() {
     let mut largest = vec![0x53, 0x48, 8, 1, 248];
     (0..248).for_each(|_| largest.extend([0x47, 0x54, 0, 0, 1]));
     largest.extend([0x4F, 0x50, 255]);
-    pair.open(&largest, &Target::Matrix(vec![3]), limits(248, 1, 0));
+    pair.open(&largest, &Target::sums(&[3]), limits(248, 1, 0));
     assert_eq!(report(&mut pair).verdict, Verdict::Pass);
     let mut more = largest.clone();
     more[4] = 249;
     more.splice(5..5, [0x47, 0x54, 0, 0, 1]);
-    assert_eq!(pair.ours.open_matrix(&more, &[3], limits(255, 255, 255)), Err(1));
+    assert_eq!(pair.ours.open_matrix(&more, &[3, 0], limits(255, 255, 255)), Err(1));
     let nine = [&[0x53, 0x48, 1, 9, 0][..], &[0x4F, 0x50, 0].repeat(9)].concat();
     assert_eq!(pair.ours.open_table(&nine, &[0, 1], limits(0, 0, 0)), Err(8));
     let eight = [&[0x53, 0x48, 1, 8, 0][..], &[0x4F, 0x50, 0].repeat(8)].concat();

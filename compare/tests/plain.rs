@@ -4,7 +4,7 @@
 
 use allpawasi::Limits;
 use compare::calls::{concerning, Call};
-use compare::circuits::{circuit, point_at_sums};
+use compare::circuits::circuit;
 use compare::depths::{play, pointings, trials, LOOSE};
 use compare::files::{damaged, file};
 use compare::found::{of_set, Query, OF_A_SET};
@@ -113,13 +113,13 @@ fn hints_by_every_set() {
         }
     }
     pair.met.show("hints by every set");
-    pair.met.said_at_least("a hint", &HINTED[1..], 100);
+    pair.met.said_at_least("a hint", &HINTED[1..6], 100);
     pair.met.said_at_least("a hint", &["none", "0", "1", "2", "3", "4"], 50);
 }
 
 fn hint(pair: &mut Pair, [j, d]: [usize; 2]) {
     let Ok(found) = pair.hint([j, d]) else { return };
-    let Some((c, Target::Matrix(rows), _)) = &pair.theirs.present else { panic!("a hint was given, and there are no rows") };
+    let Some((c, Target::Matrix { masks: rows, .. }, _)) = &pair.theirs.present else { panic!("a hint was given, and there are no rows") };
     assert_eq!(found, bench::hint(c, rows[j], d as u8).map(of_set), "{c:?} row {} D {d}", rows[j]);
 }
 
@@ -171,10 +171,7 @@ fn circuits_of_the_most_gates() {
     let (mut rng, mut pair) = (Rng::new(24), Pair::default());
     for round in 0..120 {
         let matrix = round % 5 < 2;
-        let mut c = circuit(&mut rng, 8, 248, 8, matrix);
-        if matrix {
-            point_at_sums(&mut rng, &mut c);
-        }
+        let c = circuit(&mut rng, 8, 248, 8, matrix);
         assert_eq!(target_met(&c, matrix), bench::target_met(&c, matrix), "what is met by {c:?}");
         let mut call = match round % 5 {
             4 => Call::Open(write(&c), target_met(&c, matrix), kept_by_outputs(&c)),
@@ -185,7 +182,7 @@ fn circuits_of_the_most_gates() {
             pair.look();
             as_worked_plainly(&pair);
             let (c, target, _) = pair.theirs.present.as_ref().expect("the first open is sound");
-            call = concerning(&mut rng, c, target.xor_only());
+            call = concerning(&mut rng, c, target.linear_only());
         }
     }
     pair.met.show("circuits of 248 gates");

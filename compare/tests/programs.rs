@@ -1,13 +1,14 @@
 //! The linked programs beside the independent ones, in a stack of 1 MiB: random scripts and inputs, long lines, input that
 //! ends anywhere, bytes that mean nothing, and an output that nobody reads.
 
+use compare::constants::affine_calls;
 use compare::depths::{pointings, trials};
 use compare::files::{damaged, file};
 use compare::hints::hints;
 use compare::long_files::{designers, worst};
-use compare::met::{Met, APPENDED, HINTED, LEFT_OUT};
+use compare::met::{Met, APPENDED, ENTERED, HINTED, LEFT_OUT, UNDER_A_MATRIX};
 use compare::programs::{run, start};
-use compare::scripts::{kind, script, session};
+use compare::scripts::{kind, script, session, ENTRY_TYPED};
 use compare::sweeps::morning;
 use reference::examine::work;
 use reference::rng::Rng;
@@ -42,6 +43,9 @@ fn whole_language(met: &Met) {
     met.said_at_least("left out of a show", &LEFT_OUT, 10);
     met.sweeps(5);
     met.said_at_least("an append", &APPENDED[..5], 10);
+    met.said_at_least("under a matrix", &UNDER_A_MATRIX, 20);
+    met.said_at_least("an entry", &ENTERED, 10);
+    met.said_at_least("an entry typed", &ENTRY_TYPED, 100);
 }
 
 #[test]
@@ -104,9 +108,53 @@ fn hints_past_deep_lines() {
         same("desk", &text, &desk::run(&text));
     }
     met.show("hints past deep lines");
-    met.done_and_refused("hint", &[9, 12, 13]);
-    met.said_at_least("a hint", &HINTED[1..], 20);
+    met.done_and_refused("hint", &[8, 9, 12, 13]);
+    met.said_at_least("a hint", &HINTED[1..6], 20);
     met.said_at_least("a hint", &["none", "0", "1", "2", "3", "4"], 10);
+}
+
+/// Linear circuits under rows with constants, and edits of both, typed; with a report and a listing after each call.
+#[test]
+fn rows_with_constants() {
+    let (mut rng, mut met) = (Rng::new(20), Met::default());
+    for _ in 0..40 {
+        let calls = affine_calls(&mut rng, 12);
+        let text = session(&mut rng, &calls, &mut met);
+        same("desk", &text, &desk::run(&text));
+    }
+    met.show("rows with constants");
+    met.said_at_least("under a matrix", &UNDER_A_MATRIX, 10);
+    met.said_at_least("an entry typed", &ENTRY_TYPED, 10);
+}
+
+/// Entries typed with a constant, without one, with more words and with words that are no numbers: with nothing open, under a matrix
+/// and under a table.
+#[test]
+fn entries_typed() {
+    let constants = ["", "0", "1", "2", "255", "256", "1099511627776", "18446744073709551615", "001"];
+    let no_constants = ["18446744073709551616", "-1", "+1", "x", "0x1", "1.", "-", "0 0", "1 0", "1 x", "2 2", "0 0 0"];
+    let mut met = Met::default();
+    for (open, name) in [
+        ("new\n", "entry, nothing open"),
+        ("open 534802010147540100014f5002 matrix 0301 1 1 0\n", "entry, a matrix"),
+        ("open 534802010147540100014f5002 table 01000001 1 1 0\n", "entry, a table"),
+    ] {
+        let mut text = open.to_string();
+        for (i, value) in ["0", "1", "9"].into_iter().flat_map(|i| ["0", "3", "4", "1099511627776", "x"].map(|value| (i, value))) {
+            for constant in constants.into_iter().chain(no_constants) {
+                text += &format!("entry {i} {value} {constant}\nreport\n");
+            }
+        }
+        let expected = desk::run(text.as_bytes());
+        same("desk", text.as_bytes(), &expected);
+        let answers = String::from_utf8_lossy(&expected).into_owned();
+        answers.lines().skip(1).step_by(2).for_each(|answer| met.count(name, kind(answer)));
+    }
+    met.show("entries typed");
+    met.refused("entry, nothing open", &[13]);
+    met.done_and_refused("entry, a matrix", &[8, 12]);
+    met.done_and_refused("entry, a table", &[8, 12]);
+    ["entry, nothing open", "entry, a matrix", "entry, a table"].iter().for_each(|name| met.said_at_least(name, &["unreadable"], 200));
 }
 
 #[test]

@@ -85,8 +85,8 @@ fn random_circuits_sound_and_damaged() {
     let (mut rng, mut met) = (Rng::new(2), Met::default());
     for round in 0..40_000 {
         let only = round % 2 == 0;
-        let xors = only || rng.once_in(2);
-        let c = any_circuit(&mut rng, xors);
+        let linear = only || rng.once_in(2);
+        let c = any_circuit(&mut rng, linear);
         let bytes = damaged(&mut rng, &c);
         let room = if rng.once_in(4) { rng.below(1400) as usize } else { 1341 };
         compare(&mut met, &bytes, only, room);

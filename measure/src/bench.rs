@@ -28,8 +28,7 @@ fn aes() -> (Circuit, Vec<u8>) {
 
 /// The entries of the table that a circuit meets.
 fn table_met(c: &Circuit) -> Vec<u8> {
-    let (Target::Table(list) | Target::Matrix(list)) = target_met(c, false);
-    list
+    target_met(c, false).bytes()
 }
 
 /// A circuit of 248 gates with the table that it computes.

@@ -31,21 +31,21 @@ pub fn measure() {
     }
 }
 
-/// A row that is one gate away from the lines of a program.
+/// A mask that is one gate away from the lines of a circuit.
 fn one_gate_away(c: &Circuit) -> u8 {
-    let gates = |row: u8| hint(c, row, 15).expect("a sound row and depth").map(|found| found.gates);
-    (1..=255).find(|&row| gates(row) == Some(1)).expect("there is one")
+    let gates = |mask: u8| hint(c, mask, 15).expect("a sound mask and depth").map(|found| found.gates);
+    (1..=255).find(|&mask| gates(mask) == Some(1)).expect("there is one")
 }
 
-/// A hint on 248 XOR gates. The native bench works out every line's values first, which this one holds.
+/// A hint on 248 linear gates. The native bench works out every line's values first, which this one holds.
 pub fn measure_hint() {
     let c = circuit(&mut Rng::new(12), 8, 248, 1, true);
-    let (bytes, rows) = (write(&c), vec![one_gate_away(&c)]);
+    let (bytes, target) = (write(&c), Target::sums(&[one_gate_away(&c)]));
     let (mut ours, mut theirs) = (Bench::new(), Native::new());
-    ours.open_matrix(&bytes, &rows, LOOSE).expect("sound");
-    theirs.open(&bytes, Target::Matrix(rows), NATIVE_LOOSE).expect("sound");
+    ours.open_matrix(&bytes, &target.bytes(), LOOSE).expect("sound");
+    theirs.open(&bytes, target, NATIVE_LOOSE).expect("sound");
     row(
-        "hint, 248 XOR gates, a row one gate away",
+        "hint, 248 linear gates, a row one gate away",
         CALLS,
         || (0..CALLS).for_each(|_| keep(black_box(&ours).hint(0, 15))),
         || (0..CALLS).for_each(|_| keep(black_box(&theirs).hint(0, 15))),

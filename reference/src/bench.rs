@@ -30,7 +30,7 @@ impl Bench {
 
     /// Replaces everything; a refused open keeps the earlier bench.
     pub fn open(&mut self, bytes: &[u8], target: Target, limits: Limits) -> Result<(), u8> {
-        let circuit = circuit::read(bytes, target.xor_only())?;
+        let circuit = circuit::read(bytes, target.linear_only())?;
         target.check(circuit.n, circuit.outs.len())?;
         self.present = Some((circuit, target, limits));
         Ok(())
@@ -48,7 +48,7 @@ impl Bench {
             return Err(12);
         }
         let line = circuit.n as u64 + k;
-        circuit::check_gate(target.xor_only(), line, kind, a, b)?;
+        circuit::check_gate(target.linear_only(), line, kind, a, b)?;
         circuit.gates[k as usize] = Gate { kind: kind as u8, a: a as u8, b: b as u8 };
         Ok(examine::readers(circuit, k as usize))
     }
@@ -60,7 +60,7 @@ impl Bench {
             return Err(18);
         }
         let line = circuit.lines();
-        circuit::check_gate(target.xor_only(), line as u64, kind, a, b)?;
+        circuit::check_gate(target.linear_only(), line as u64, kind, a, b)?;
         circuit.gates.push(Gate { kind: kind as u8, a: a as u8, b: b as u8 });
         Ok(vec![line])
     }
@@ -85,20 +85,22 @@ impl Bench {
         Ok(Vec::new())
     }
 
-    /// Changes a matrix row or a table entry; no line is reworked.
-    pub fn change_entry(&mut self, i: u64, value: u64) -> Result<Vec<usize>, u8> {
+    /// Changes a matrix row, its mask and its constant, or a table entry, with a constant of 0; no line is reworked.
+    pub fn change_entry(&mut self, i: u64, value: u64, constant: u64) -> Result<Vec<usize>, u8> {
         let (circuit, target, _) = self.opened_mut()?;
         if i >= target.entries() as u64 {
             return Err(12);
         }
-        let (list, fits) = match target {
-            Target::Matrix(rows) => (rows, examine::row_fits(circuit.n, value)),
-            Target::Table(entries) => (entries, examine::entry_fits(circuit.outs.len(), value)),
-        };
-        if !fits {
-            return Err(8);
+        let at = i as usize;
+        match target {
+            Target::Matrix { masks, constants } if examine::row_fits(circuit.n, value, constant) => {
+                (masks[at], constants[at]) = (value as u8, constant as u8);
+            }
+            Target::Table(entries) if examine::entry_fits(circuit.outs.len(), value, constant) => {
+                entries[at] = value as u8;
+            }
+            _ => return Err(8),
         }
-        list[i as usize] = value as u8;
         Ok(Vec::new())
     }
 
@@ -108,11 +110,13 @@ impl Bench {
         Ok(Vec::new())
     }
 
-    /// How far row j of a matrix is from the circuit's lines within depth D, and from which; or none.
+    /// How far row j of a matrix, by its mask alone, is from the circuit's lines within depth D, and from which; or none.
     pub fn hint(&self, j: u64, d: u64) -> Result<Option<Distance>, u8> {
         let (circuit, target, _) = self.opened()?;
         match target {
-            Target::Matrix(rows) if j < rows.len() as u64 => hint::hint(circuit, rows[j as usize], d),
+            Target::Matrix { masks, .. } if j < masks.len() as u64 => {
+                hint::hint(circuit, masks[j as usize], d)
+            }
             _ => Err(12),
         }
     }

@@ -2,6 +2,7 @@
 //! writing, and storing into lent room.
 
 pub const XOR: u8 = 0;
+pub const XNOR: u8 = 1;
 pub const AND: u8 = 2;
 pub const OR: u8 = 4;
 pub const NOT: u8 = 6;
@@ -35,7 +36,7 @@ impl Circuit {
 }
 
 /// Reads a stored circuit; the refusals come in the order of an open, the target left out.
-pub fn read(bytes: &[u8], xor_only: bool) -> Result<Circuit, u8> {
+pub fn read(bytes: &[u8], linear_only: bool) -> Result<Circuit, u8> {
     let (n, m, g) = read_shape(bytes)?;
     if bytes.len() != 5 + 5 * g + 3 * m {
         return Err(2);
@@ -43,7 +44,7 @@ pub fn read(bytes: &[u8], xor_only: bool) -> Result<Circuit, u8> {
     let (gate_records, output_records) = bytes[5..].split_at(5 * g);
     let mut gates = Vec::with_capacity(g);
     for record in gate_records.chunks_exact(5) {
-        gates.push(read_gate(record, n as usize + gates.len(), xor_only)?);
+        gates.push(read_gate(record, n as usize + gates.len(), linear_only)?);
     }
     let mut outs = Vec::with_capacity(m);
     for record in output_records.chunks_exact(3) {
@@ -67,12 +68,12 @@ fn read_shape(bytes: &[u8]) -> Result<(u8, usize, usize), u8> {
     Ok((n, m as usize, g as usize))
 }
 
-fn read_gate(record: &[u8], line: usize, xor_only: bool) -> Result<Gate, u8> {
+fn read_gate(record: &[u8], line: usize, linear_only: bool) -> Result<Gate, u8> {
     if record[..2] != *b"GT" {
         return Err(3);
     }
     let gate = Gate { kind: record[2], a: record[3], b: record[4] };
-    check_gate(xor_only, line as u64, gate.kind.into(), gate.a.into(), gate.b.into())?;
+    check_gate(linear_only, line as u64, gate.kind.into(), gate.a.into(), gate.b.into())?;
     Ok(gate)
 }
 
@@ -86,8 +87,13 @@ fn read_output(record: &[u8], lines: usize) -> Result<u8, u8> {
     Ok(record[2])
 }
 
-/// Whether a gate may stand at a line: kind (4), operands (5), XOR only (7).
-pub fn check_gate(xor_only: bool, line: u64, kind: u64, a: u64, b: u64) -> Result<(), u8> {
+/// Whether a kind of gate is nonlinear: AND, NAND, OR and NOR are, XOR, XNOR and NOT are not.
+pub fn is_nonlinear(kind: u64) -> bool {
+    (AND as u64..NOT as u64).contains(&kind)
+}
+
+/// Whether a gate may stand at a line: kind (4), operands (5), linear gates only (7).
+pub fn check_gate(linear_only: bool, line: u64, kind: u64, a: u64, b: u64) -> Result<(), u8> {
     if kind > NOT as u64 {
         return Err(4);
     }
@@ -95,7 +101,7 @@ pub fn check_gate(xor_only: bool, line: u64, kind: u64, a: u64, b: u64) -> Resul
     if a >= line || !second_fits {
         return Err(5);
     }
-    if xor_only && kind != XOR as u64 {
+    if linear_only && is_nonlinear(kind) {
         return Err(7);
     }
     Ok(())
@@ -131,6 +137,9 @@ mod tests {
     use super::*;
 
     const AND: &[u8] = b"SH\x02\x01\x01GT\x02\x00\x01OP\x02";
+
+    /// What each kind, and the first that is none, is answered where only linear gates are allowed.
+    const LINEAR_ONLY: [Result<(), u8>; 8] = [Ok(()), Ok(()), Err(7), Err(7), Err(7), Err(7), Ok(()), Err(4)];
 
     fn changed(at: usize, byte: u8) -> Vec<u8> {
         let mut bytes = AND.to_vec();
@@ -189,12 +198,13 @@ mod tests {
         assert_eq!(read(b"SH\x02\x01\x02GT\x00\x02\x00XX\x00\x00\x00OP\x00", false), Err(5));
         assert_eq!(read(b"SH\x02\x01\x02GT\x02\x00\x00XX\x00\x00\x00OP\x00", true), Err(7));
         assert_eq!(read(b"SH\x02\x02\x00OP\x02XX\x00", false), Err(6));
-        // Within a record: kind, then operands, then XOR only.
+        // Within a record: kind, then operands, then linear gates only.
         assert_eq!(check_gate(true, 2, 7, 9, 9), Err(4));
         assert_eq!(check_gate(true, 2, 6, 0, 1), Err(5));
-        assert_eq!(check_gate(true, 2, 6, 0, 0), Err(7));
+        assert_eq!(check_gate(true, 2, 3, 2, 0), Err(5));
         assert_eq!(check_gate(false, 2, 6, 0, 0), Ok(()));
         assert_eq!(check_gate(true, 2, 0, 1, 1), Ok(()));
+        assert_eq!((0..8).map(|kind| check_gate(true, 2, kind, 1, 0)).collect::<Vec<_>>(), LINEAR_ONLY);
         assert_eq!(check_gate(true, 2, u64::MAX, 0, 0), Err(4));
         assert_eq!(check_gate(true, 2, 0, u64::MAX, 0), Err(5));
     }

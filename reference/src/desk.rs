@@ -119,8 +119,8 @@ fn call(bench: &mut Bench, word: &[u8], rest: &[&[u8]]) -> Result<String, Fault>
             Ok(reworked(&bench.point_output(j, line)?))
         }
         (b"entry", _) => {
-            let [i, value] = numbers(rest)?;
-            Ok(reworked(&bench.change_entry(i, value)?))
+            let [i, value, constant] = entry(rest)?;
+            Ok(reworked(&bench.change_entry(i, value, constant)?))
         }
         (b"limits", _) => {
             let limits = limits(rest)?;
@@ -166,6 +166,15 @@ fn numbers<const COUNT: usize>(words: &[&[u8]]) -> Result<[u64; COUNT], Fault> {
     Ok(values)
 }
 
+/// An entry's number, its value and its constant, which is 0 where it is left out.
+fn entry(words: &[&[u8]]) -> Result<[u64; 3], Fault> {
+    if words.len() == 3 {
+        return numbers(words);
+    }
+    let [i, value] = numbers(words)?;
+    Ok([i, value, 0])
+}
+
 fn limits(words: &[&[u8]]) -> Result<Limits, Fault> {
     let typed: [u64; 3] = numbers(words)?;
     if typed.iter().any(|&limit| limit > 255) {
@@ -196,7 +205,7 @@ fn open(bench: &mut Bench, stored: &[u8], kind: &[u8], list: &[u8], rest: &[&[u8
     let stored = bytes(stored)?;
     let list = bytes(list)?;
     let target = match kind {
-        b"matrix" => Target::Matrix(list),
+        b"matrix" => Target::matrix(&list),
         b"table" => Target::Table(list),
         _ => return Err(Fault::Unreadable),
     };

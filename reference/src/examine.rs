@@ -1,7 +1,7 @@
 //! A fresh examination of a circuit against a target and limits: the values of every line on
 //! all inputs at once, depths, counts and verdict; and the readers of a gate.
 
-use crate::circuit::{Circuit, Gate, NOT};
+use crate::circuit::{is_nonlinear, Circuit, Gate, NOT};
 
 /// A line's values: input value x stands at word x/64, bit x%64; bits past 2^n are 0.
 pub type Words = [u64; 4];
@@ -13,9 +13,11 @@ pub struct Limits {
     pub and_depth: u8,
 }
 
+/// What the outputs are to be: under a matrix output j is the sum of the inputs of its mask and of its constant,
+/// under a table output j is bit j of the entry that the input value has.
 #[derive(Clone, Debug, PartialEq, Eq)]
 pub enum Target {
-    Matrix(Vec<u8>),
+    Matrix { masks: Vec<u8>, constants: Vec<u8> },
     Table(Vec<u8>),
 }
 
@@ -70,17 +72,41 @@ fn greatest_named(depths: &[u8], outs: &[u8]) -> u8 {
 }
 
 impl Target {
-    /// Under a matrix only XOR gates are allowed.
-    pub fn xor_only(&self) -> bool {
-        matches!(self, Target::Matrix(_))
+    /// A matrix as it is brought: masks, and then as many constants. Of an odd number of bytes one half is the
+    /// longer, so that no circuit has as many outputs as both.
+    pub fn matrix(bytes: &[u8]) -> Target {
+        let (masks, constants) = bytes.split_at(bytes.len() / 2);
+        Target::Matrix { masks: masks.to_vec(), constants: constants.to_vec() }
+    }
+
+    /// A matrix whose constants are all 0.
+    pub fn sums(masks: &[u8]) -> Target {
+        Target::Matrix { masks: masks.to_vec(), constants: vec![0; masks.len()] }
+    }
+
+    /// The bytes in which it is brought.
+    pub fn bytes(&self) -> Vec<u8> {
+        match self {
+            Target::Matrix { masks, constants } => [masks.as_slice(), constants].concat(),
+            Target::Table(entries) => entries.clone(),
+        }
+    }
+
+    /// Under a matrix only linear gates are allowed.
+    pub fn linear_only(&self) -> bool {
+        matches!(self, Target::Matrix { .. })
     }
 
     /// Whether the target fits a circuit of n inputs and m outputs, refused 8 otherwise.
     pub fn check(&self, n: u8, m: usize) -> Result<(), u8> {
         let sound = match self {
-            Target::Matrix(rows) => rows.len() == m && rows.iter().all(|&row| row_fits(n, row.into())),
+            Target::Matrix { masks, constants } => {
+                let mut rows = masks.iter().zip(constants);
+                let fits = |(&mask, &constant): (&u8, &u8)| row_fits(n, mask.into(), constant.into());
+                masks.len() == m && constants.len() == m && rows.all(fits)
+            }
             Target::Table(entries) => {
-                m <= 8 && entries.len() == 1 << n && entries.iter().all(|&e| entry_fits(m, e.into()))
+                m <= 8 && entries.len() == 1 << n && entries.iter().all(|&e| entry_fits(m, e.into(), 0))
             }
         };
         if sound {
@@ -93,7 +119,7 @@ impl Target {
     /// How many rows or entries there are.
     pub fn entries(&self) -> usize {
         match self {
-            Target::Matrix(list) | Target::Table(list) => list.len(),
+            Target::Matrix { masks: list, .. } | Target::Table(list) => list.len(),
         }
     }
 
@@ -101,8 +127,11 @@ impl Target {
     pub fn wanted(&self, n: u8, j: usize) -> Words {
         let mut words = [0; 4];
         match self {
-            Target::Matrix(rows) => {
-                for i in (0..n).filter(|i| rows[j] >> i & 1 == 1) {
+            Target::Matrix { masks, constants } => {
+                if constants[j] == 1 {
+                    words = in_use(n);
+                }
+                for i in (0..n).filter(|i| masks[j] >> i & 1 == 1) {
                     words = each_word(|w| words[w] ^ input_words(n, i)[w]);
                 }
             }
@@ -116,14 +145,14 @@ impl Target {
     }
 }
 
-/// A row's rule: not 0, and below 2^n.
-pub fn row_fits(n: u8, row: u64) -> bool {
-    row != 0 && row < 1 << n
+/// A row's rule: a mask below 2^n, and a constant of 0 or 1. A mask of 0 is a constant output.
+pub fn row_fits(n: u8, mask: u64, constant: u64) -> bool {
+    mask < 1 << n && constant <= 1
 }
 
-/// A table entry's rule: below 2^m.
-pub fn entry_fits(m: usize, entry: u64) -> bool {
-    entry < 1 << m
+/// A table entry's rule: below 2^m, and no constant beside it but 0.
+pub fn entry_fits(m: usize, entry: u64, constant: u64) -> bool {
+    entry < 1 << m && constant == 0
 }
 
 fn bit(words: &Words, x: usize) -> bool {
@@ -172,7 +201,7 @@ fn gate_word(kind: u8, a: u64, b: u64) -> u64 {
 }
 
 fn nonlinear(gate: &Gate) -> bool {
-    (2..=5).contains(&gate.kind)
+    is_nonlinear(gate.kind.into())
 }
 
 /// The second line a gate reads; a NOT reads its first operand alone.

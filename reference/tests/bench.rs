@@ -67,9 +67,12 @@ fn reports_agree_with_plain_ones() {
 #[test]
 fn matrix_reports_agree_with_plain_ones() {
     let mut rng = Rng::new(12);
-    for _ in 0..1000 {
-        let (n, m) = (rng.between(1, 8), rng.between(1, 32));
-        let mut circuit = reference::builder::build(n, &rng.rows(n, m), 15).unwrap();
+    for round in 0..1000 {
+        let (n, m, g) = (rng.between(1, 8), rng.between(1, 32), rng.below(60));
+        let mut circuit = match round % 2 {
+            0 => reference::builder::build(n, &rng.rows(n, m), 15).unwrap(),
+            _ => random_circuit(&mut rng, n, m, g, true),
+        };
         let target = plain::target_met(&circuit, true);
         if rng.once_in(2) {
             circuit.outs[rng.below(m) as usize] = rng.below(circuit.lines() as u64) as u8;
@@ -170,7 +173,7 @@ fn nothing_open_is_refused_13() {
     assert_eq!(empty.held(), Err(13));
     assert_eq!(empty.replace_gate(big, big, big, big), Err(13));
     assert_eq!(empty.point_output(big, big), Err(13));
-    assert_eq!(empty.change_entry(big, big), Err(13));
+    assert_eq!(empty.change_entry(big, big, big), Err(13));
     assert_eq!(empty.set_limits(limits(0, 0, 0)), Err(13));
     assert_eq!(empty.hint(big, big), Err(13));
     assert_eq!(empty.store(&mut []), Err(13));
@@ -182,7 +185,7 @@ const PAIR: &[u8] = b"SH\x02\x01\x01GT\x00\x00\x01OP\x02";
 /// One XOR gate under a matrix of one row.
 fn pair_bench() -> Bench {
     let mut bench = Bench::new();
-    bench.open(PAIR, Target::Matrix(vec![3]), limits(1, 1, 0)).unwrap();
+    bench.open(PAIR, Target::sums(&[3]), limits(1, 1, 0)).unwrap();
     bench
 }
 
@@ -198,8 +201,12 @@ fn refused_gates_come_in_order_and_change_nothing() {
     for (kind, a, b) in [(2, 2, 0), (2, 0, 2), (2, big, 0), (6, 0, 1), (2, 256, 1), (0, 0, 256)] {
         assert_eq!(bench.replace_gate(0, kind, a, b), Err(5));
     }
-    for (kind, a, b) in [(6, 0, 0), (1, 0, 1)] {
-        assert_eq!(bench.replace_gate(0, kind, a, b), Err(7));
+    for kind in 2..=5 {
+        assert_eq!(bench.replace_gate(0, kind, 0, 1), Err(7));
+    }
+    assert_eq!(bench, before);
+    for (kind, b) in [(6, 0), (1, 1), (0, 1)] {
+        assert_eq!(bench.replace_gate(0, kind, 0, b), Ok(vec![2]));
     }
     assert_eq!(bench, before);
 }
@@ -210,19 +217,19 @@ fn other_refusals_come_in_order_and_change_nothing() {
     for (j, line, number) in [(1, 9, 12), (big, 0, 12), (0, 3, 6), (0, 256, 6), (0, big, 6)] {
         assert_eq!(bench.point_output(j, line), Err(number));
     }
-    for (i, value, number) in [(1, 0, 12), (big, 0, 12), (0, 0, 8), (0, 4, 8), (0, 257, 8), (0, big, 8)] {
-        assert_eq!(bench.change_entry(i, value), Err(number));
+    for (i, value, number) in [(1, 0, 12), (big, 0, 12), (0, 4, 8), (0, 257, 8), (0, big, 8)] {
+        assert_eq!(bench.change_entry(i, value, 0), Err(number));
     }
     let mut short = [5; 12];
     assert_eq!(bench.store(&mut short), Err(11));
     assert_eq!(short, [5; 12]);
-    for rows in [vec![], vec![3, 3], vec![0], vec![4]] {
-        assert_eq!(bench.open(PAIR, Target::Matrix(rows), limits(9, 9, 9)), Err(8));
+    for rows in [vec![], vec![3, 3], vec![4]] {
+        assert_eq!(bench.open(PAIR, Target::sums(&rows), limits(9, 9, 9)), Err(8));
     }
     for table in [vec![], vec![0; 3], vec![0; 5], vec![0, 0, 2, 0]] {
         assert_eq!(bench.open(PAIR, Target::Table(table), limits(9, 9, 9)), Err(8));
     }
-    assert_eq!(bench.open(&PAIR[..12], Target::Matrix(vec![]), limits(9, 9, 9)), Err(2));
+    assert_eq!(bench.open(&PAIR[..12], Target::sums(&[]), limits(9, 9, 9)), Err(2));
     assert_eq!(bench.store(&mut [0; 13]), Ok(13));
     assert_eq!(bench, before);
 }
@@ -243,7 +250,7 @@ fn accepted_edits_are_applied_in_order() {
     assert_eq!(bench.report().unwrap().verdict, Verdict::Pass);
     assert_eq!(bench.point_output(0, 1), Ok(vec![]));
     assert_eq!(bench.report().unwrap().verdict, Verdict::Wrong { input: 2, output: 0 });
-    assert_eq!(bench.change_entry(2, 1), Ok(vec![]));
+    assert_eq!(bench.change_entry(2, 1, 0), Ok(vec![]));
     assert_eq!(bench.report().unwrap().verdict, Verdict::Pass);
     let mut room = [0; 13];
     assert_eq!(bench.store(&mut room), Ok(13));

@@ -69,7 +69,7 @@ fn builds_meet_their_matrix_within_the_limits() {
             Ok(circuit) => {
                 assert!(!shallow && circuit.gates.len() as u32 <= most);
                 let limits = Limits { gates: most as u8, depth: d as u8, and_depth: 0 };
-                let report = examine(&circuit, &Target::Matrix(rows), &limits);
+                let report = examine(&circuit, &Target::sums(&rows), &limits);
                 assert_eq!(report.verdict, Verdict::Pass);
             }
         }

@@ -47,7 +47,7 @@ fn shows_and_holds() {
          held 10 0:0:0:aa 1:0:0:cc 2:0:0:f0 3:1:0:66 4:1:0:99 5:1:1:88 6:1:1:77 7:1:1:ee 8:1:1:11 9:2:1:ee\n"
     );
     let four = answers(
-        "open 534804010047540000014f5003 matrix 08 0 0 0\nopen 53480401004F5003 matrix 08 0 0 0\nheld\n",
+        "open 534804010047540000014f5003 matrix 0800 0 0 0\nopen 53480401004F5003 matrix 0800 0 0 0\nheld\n",
     );
     assert_eq!(four, "refused 2\nopened\nheld 4 0:0:0:aaaa 1:0:0:cccc 2:0:0:f0f0 3:0:0:00ff\n");
 }
@@ -88,7 +88,8 @@ fn stores_builds_and_measures() {
 }
 
 /// The program of K1: lines 3, 4 and 5 have masks 3, 7 and 6 and depths 1, 2 and 1.
-const K1: &str = "open 53480303034754000001475400020347540001024f50034f50044f5005 matrix 030706 3 2 0\n";
+const K1: &str =
+    "open 53480303034754000001475400020347540001024f50034f50044f5005 matrix 030706000000 3 2 0\n";
 
 /// The answer to some lines on a bench with the program of K1 open.
 fn on_k1(lines: &str) -> String {
@@ -102,7 +103,7 @@ fn hints() {
     // With gate 1 another, row 7 is line 0 with 5 or line 2 with 3.
     assert_eq!(on_k1("gate 1 0 0 0\nhint 1 2\nhint 1 1"), "reworked 1 4\ndistance 1 0 5\ndistance none\n");
     assert_eq!(on_k1("entry 1 5\nhint 1 1\nhint 1 0"), "reworked 0\ndistance 1 0 2\ndistance none\n");
-    let new = "open 53480401004f5000 matrix 0f 0 0 0\n";
+    let new = "open 53480401004f5000 matrix 0f00 0 0 0\n";
     assert_eq!(answers(&format!("{new}hint 0 2\nhint 0 1\n")), "opened\ndistance 3 0 1 2 3\ndistance none\n");
     let big = u64::MAX;
     for (line, number) in [
@@ -121,6 +122,54 @@ fn hints() {
     }
     assert_eq!(on_open("hint 0 1\nhint 9 16\nhint 0 300"), "refused 12\n".repeat(3));
     assert_eq!(on_k1("hint 0 2\nshow\nheld"), format!("distance 0 3\n{}", on_k1("show\nheld")));
+}
+
+#[test]
+fn rows_with_constants() {
+    // One XNOR: its row is x0 ^ x1 with a constant 1.
+    let open = |rows: &str| format!("open 534802010147540100014f5002 matrix {rows} 1 1 0\n");
+    let on_xnor = |lines: &str| {
+        answers(&format!("{}{lines}\n", open("0301"))).strip_prefix("opened\n").unwrap().to_string()
+    };
+    let report =
+        |verdict: &str| format!("report gates 1 xor 1 nonlinear 0 not 0 depth 1 anddepth 0 {verdict}\n");
+    assert_eq!(on_xnor("report"), report("pass"));
+    assert_eq!(on_xnor("entry 0 3\nreport"), format!("reworked 0\n{}", report("wrong 0 0")));
+    assert_eq!(
+        on_xnor("entry 0 3 0\nentry 0 3 1\nreport"),
+        format!("reworked 0\nreworked 0\n{}", report("pass"))
+    );
+    assert_eq!(on_xnor("entry 0 0 1\nreport"), format!("reworked 0\n{}", report("wrong 1 0")));
+    for refused in [
+        "entry 0 3 2",
+        "entry 0 4 1",
+        "entry 0 4",
+        "entry 0 3 18446744073709551615",
+        "entry 0 1099511627776 0",
+    ] {
+        assert_eq!(
+            on_xnor(&format!("{refused}\nreport")),
+            format!("refused 8\n{}", report("pass")),
+            "{refused}"
+        );
+    }
+    assert_eq!(on_xnor("entry 1 3 2\nentry 1 4 1\nentry 1 0"), "refused 12\n".repeat(3));
+    assert_eq!(
+        on_xnor("entry 0 3 1 1\nentry 0 3 one\nreport"),
+        format!("{}{}", "unreadable\n".repeat(2), report("pass"))
+    );
+    assert_eq!(
+        on_xnor("hint 0 1\nentry 0 0 1\nhint 0 1\nhint 0 16\nhint 1 16"),
+        "distance 0 2\nreworked 0\nrefused 8\nrefused 8\nrefused 12\n"
+    );
+    assert_eq!(
+        on_xnor("gate 0 6 1 0\nappend 1 2 0\ngate 0 3 0 1\nappend 4 0 0"),
+        "reworked 1 2\nreworked 1 3\nrefused 7\nrefused 7\n"
+    );
+    for rows in ["03", "-", "030100", "0401", "0302", "03ff"] {
+        assert_eq!(answers(&open(rows)), "refused 8\n", "{rows}");
+    }
+    assert_eq!(answers(&(open("0001") + "report\n")), format!("opened\n{}", report("wrong 1 0")));
 }
 
 #[test]
@@ -223,6 +272,10 @@ fn large_numbers_are_refused_by_what_they_name() {
         ("output 300 0", 12),
         ("entry 999 0", 12),
         ("entry 0 999", 8),
+        ("entry 999 999 999", 12),
+        ("entry 0 1 1", 8),
+        ("entry 0 999 0", 8),
+        ("entry 0 0 18446744073709551615", 8),
         ("gate 18446744073709551615 9 9 9", 12),
         ("entry 0 18446744073709551615", 8),
     ] {
@@ -233,11 +286,11 @@ fn large_numbers_are_refused_by_what_they_name() {
 #[test]
 fn with_nothing_open() {
     let calls = "report\ngate 0 0 0 0\noutput 0 0\nentry 0 0\nlimits 0 0 0\nstore 0\nheld\nshow\n\
-                 sweep\nappend 300 300 300\nhint 300 300\n";
-    assert_eq!(answers(calls), "refused 13\n".repeat(11));
+                 sweep\nappend 300 300 300\nhint 300 300\nentry 300 300 300\n";
+    assert_eq!(answers(calls), "refused 13\n".repeat(12));
     assert_eq!(
         answers(&format!("new\n{OPEN}new\n{calls}")),
-        format!("new\nopened\nnew\n{}", "refused 13\n".repeat(11))
+        format!("new\nopened\nnew\n{}", "refused 13\n".repeat(12))
     );
 }
 
@@ -250,7 +303,23 @@ fn all_unreadable(lines: &[&str]) {
 #[test]
 fn unknown_words_and_counts_are_no_call() {
     all_unreadable(&["Report", "report 1", "new x", "held 0", "show all", "-", "open", "store", "gate"]);
-    all_unreadable(&["gate 0 3 0", "gate 0 3 0 1 1", "output 0", "output 0 0 0", "entry 0", "limits 1 1"]);
+    all_unreadable(&[
+        "gate 0 3 0",
+        "gate 0 3 0 1 1",
+        "output 0",
+        "output 0 0 0",
+        "entry",
+        "entry 0",
+        "limits 1 1",
+    ]);
+    all_unreadable(&[
+        "entry 0 0 0 0",
+        "entry 0 1 0 x",
+        "entry 0 0 x",
+        "entry 0 0 -",
+        "entry 0 x 0",
+        "Entry 0 0 0",
+    ]);
     all_unreadable(&["sweep 0", "sweep all", "Sweep", "sweeps", "append", "append 0 0", "append 0 0 0 0"]);
     all_unreadable(&["build 3 03 2", "build 3 03 2 29 1", "distance 4 01 00 1", "distance 4 01 00 1 1 1"]);
     all_unreadable(&["hint", "hint 0", "hint 0 1 1", "Hint 0 1", "hints 0 1", "hint0 1"]);

@@ -65,7 +65,7 @@ fn k8_to_k10_table() {
 
     for (i, value) in [1, 1, 1, 0].into_iter().enumerate() {
         assert_ne!(bench.report().unwrap().verdict, Verdict::Pass);
-        assert_eq!(bench.change_entry(i as u64, value), Ok(vec![]));
+        assert_eq!(bench.change_entry(i as u64, value, 0), Ok(vec![]));
     }
     assert_eq!(bench.report().unwrap().verdict, Verdict::Pass);
 }
@@ -74,7 +74,7 @@ fn k8_to_k10_table() {
 fn k11_and_k12_matrix() {
     let mut bench = Bench::new();
     let stored = circuit::write(&xors(2, &[(0, 1), (0, 2)], &[2]));
-    assert_eq!(bench.open(&stored, Target::Matrix(vec![3]), limits(2, 1, 0)), Ok(()));
+    assert_eq!(bench.open(&stored, Target::sums(&[3]), limits(2, 1, 0)), Ok(()));
     let report = bench.report().unwrap();
     assert_eq!((report.verdict, report.depth), (Verdict::Pass, 1));
 
@@ -108,6 +108,6 @@ fn edges_of_depth_and_outputs() {
     let nine = circuit::write(&xors(1, &[], &[0; 9]));
     let mut bench = Bench::new();
     assert_eq!(bench.open(&nine, Target::Table(vec![0, 1]), limits(0, 0, 0)), Err(8));
-    assert_eq!(bench.open(&nine, Target::Matrix(vec![1; 9]), limits(0, 0, 0)), Ok(()));
+    assert_eq!(bench.open(&nine, Target::sums(&[1; 9]), limits(0, 0, 0)), Ok(()));
     assert_eq!(bench.report().unwrap().verdict, Verdict::Pass);
 }

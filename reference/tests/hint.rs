@@ -1,11 +1,11 @@
-//! Hints: small ones counted by hand, lines that are too deep for a base and the numbers of those that are not,
-//! refusals in order, and the plain way after random edits.
+//! Hints: small ones counted by hand, lines behind NOT and XNOR, which count by their masks, lines that are too deep
+//! for a base and the numbers of those that are not, refusals in order, and the plain way after random edits.
 
 mod common;
 
 use common::{random_circuit, random_gate};
 use reference::bench::Bench;
-use reference::circuit::{write, Circuit, Gate, XOR};
+use reference::circuit::{write, Circuit, Gate, NOT, XNOR, XOR};
 use reference::examine::{work, Limits, Target};
 use reference::hint::hint;
 use reference::plain::bench as plain;
@@ -20,7 +20,7 @@ fn xors(n: u8, pairs: &[(u8, u8)]) -> Circuit {
 
 fn opened(circuit: &Circuit, rows: [u8; 3]) -> Bench {
     let mut bench = Bench::new();
-    bench.open(&write(circuit), Target::Matrix(rows.to_vec()), LOOSE).unwrap();
+    bench.open(&write(circuit), Target::sums(&rows), LOOSE).unwrap();
     bench
 }
 
@@ -42,8 +42,8 @@ fn of_a_small_program() {
     assert_eq!([0, 1, 2].map(|j| lines(&bench, j, 2)), [set(&[3]), set(&[4]), set(&[5])]);
     assert_eq!([0, 1, 2].map(|j| lines(&bench, j, 1)), [set(&[3]), None, set(&[5])]);
     assert_eq!([0, 1, 2].map(|j| lines(&bench, j, 0)), [None, None, None]);
-    bench.change_entry(0, 4).unwrap();
-    bench.change_entry(2, 5).unwrap();
+    bench.change_entry(0, 4, 0).unwrap();
+    bench.change_entry(2, 5, 0).unwrap();
     assert_eq!(
         [lines(&bench, 0, 0), lines(&bench, 2, 1), lines(&bench, 2, 15)],
         [set(&[2]), set(&[0, 2]), set(&[0, 2])]
@@ -57,6 +57,30 @@ fn of_a_small_program() {
     // Line 3, as x1 ^ x1, has mask 0.
     bench.replace_gate(0, 0, 1, 1).unwrap();
     assert_eq!([lines(&bench, 1, 2), lines(&bench, 1, 1)], [set(&[2, 4]), None]);
+}
+
+#[test]
+fn constants_do_not_count() {
+    // Line 3 is ~(x0 ^ x1), line 4 ~x2 and line 5 ~(t0 ^ t1): masks 3, 4 and 7, constants 1, 1 and 1.
+    let gates = [(XNOR, 0, 1), (NOT, 2, 0), (XNOR, 3, 4)].map(|(kind, a, b)| Gate { kind, a, b });
+    let circuit = Circuit { n: 3, gates: gates.to_vec(), outs: vec![0; 3] };
+    assert_eq!(plain::masks(&circuit), [1, 2, 4, 3, 4, 7]);
+    let mut bench = opened(&circuit, [3, 7, 6]);
+    for constant in [0, 1] {
+        for (j, mask) in [3, 7, 6].into_iter().enumerate() {
+            bench.change_entry(j as u64, mask, constant).unwrap();
+        }
+        assert_eq!([0, 1].map(|d| lines(&bench, 0, d)), [None, set(&[3])]);
+        // The row of all three is line 5, or nothing where that is too deep.
+        assert_eq!([1, 2, 15].map(|d| lines(&bench, 1, d)), [None, set(&[5]), set(&[5])]);
+        // 6 is x0 with line 5 where there is room for 1 + 4, or x1 and x2 where there is room for 1 + 1.
+        assert_eq!([0, 1, 2].map(|d| lines(&bench, 2, d)), [None, set(&[1, 2]), set(&[1, 2])]);
+        assert_eq!([3, 15].map(|d| lines(&bench, 2, d)), [set(&[0, 5]), set(&[0, 5])]);
+    }
+    // With line 4 an XNOR of x2 and x0 its mask is 5, whatever the row's constant is.
+    bench.replace_gate(1, XNOR.into(), 2, 0).unwrap();
+    bench.change_entry(2, 5, 1).unwrap();
+    assert_eq!([0, 1].map(|d| lines(&bench, 2, d)), [None, set(&[4])]);
 }
 
 /// A chain that adds x0 again and again: its line k is k - 2 deep and has mask 3, or 2 where k is even. Line 17 is 15
@@ -117,11 +141,24 @@ fn refusals_come_in_order() {
         assert_eq!(bench.hint(2, d), Err(9));
     }
     assert!(bench.hint(2, 15).is_ok());
-    // No bench has a row of mask 0 so far.
-    assert_eq!(
-        [hint(&circuit, 0, 15), hint(&circuit, 0, 16), hint(&circuit, 8, 16)],
-        [Err(8), Err(8), Err(8)]
-    );
+    assert_eq!(hint(&circuit, 8, 16), Err(8));
+}
+
+#[test]
+fn a_row_of_mask_0_is_refused_8_before_its_depth() {
+    let mut bench = opened(&xors(3, &[(0, 1)]), [3, 0, 6]);
+    for constant in [0, 1] {
+        bench.change_entry(1, 0, constant).unwrap();
+        let before = bench.clone();
+        for d in [0, 1, 15, 16, 256, u64::MAX] {
+            assert_eq!(bench.hint(1, d), Err(8), "constant {constant} within {d}");
+            assert_eq!(bench.hint(3, d), Err(12));
+        }
+        assert_eq!((bench.hint(0, 16), bench.hint(2, 16)), (Err(9), Err(9)));
+        assert_eq!(bench, before);
+    }
+    bench.change_entry(1, 4, 1).unwrap();
+    assert_eq!(lines(&bench, 1, 0), set(&[2]));
 }
 
 /// A program with a chain, often deeper than a base is, between a few other gates.
@@ -130,11 +167,11 @@ fn random_program(rng: &mut Rng) -> Circuit {
     let mut circuit = random_circuit(rng, n, 3, before, true);
     let links = if rng.once_in(3) { 0 } else { rng.between(15, 18) };
     for last in n + before - 1..n + before - 1 + links {
-        circuit.gates.push(Gate { kind: XOR, a: last as u8, b: 0 });
+        circuit.gates.push(Gate { kind: rng.below(2) as u8, a: last as u8, b: 0 });
     }
     for _ in 0..rng.below(6) {
         let [a, b] = [(); 2].map(|()| rng.below(n + before) as u8);
-        circuit.gates.push(Gate { kind: XOR, a, b });
+        circuit.gates.push(Gate { kind: rng.below(2) as u8, a, b });
     }
     circuit
 }
@@ -158,15 +195,15 @@ fn hints_agree_with_plain_ones_after_edits() {
         for _ in 0..6 {
             let (j, d) = (rng.below(3), rng.below(16));
             let (now, target, _) = bench.present.clone().unwrap();
-            let Target::Matrix(rows) = &target else { panic!("it is a matrix") };
+            let Target::Matrix { masks: rows, .. } = &target else { panic!("it is a matrix") };
             let found = lines(&bench, j, d);
             assert_eq!(found, plain::hint(&now, rows[j as usize], d as u8), "{now:?} {rows:?} {j} {d}");
             count(&mut met, &now, &found);
             let gate = random_gate(&mut rng, n + g.max(1) - 1, true);
             if g > 0 && rng.once_in(2) {
-                bench.replace_gate(g - 1, 0, gate.a.into(), gate.b.into()).unwrap();
+                bench.replace_gate(g - 1, gate.kind.into(), gate.a.into(), gate.b.into()).unwrap();
             }
-            bench.change_entry(rng.below(3), rng.between(1, (1 << n) - 1)).unwrap();
+            bench.change_entry(rng.below(3), rng.between(1, (1 << n) - 1), rng.below(2)).unwrap();
         }
     }
     assert!(met.iter().all(|&times| times > 30), "none, lines 1 to 4, more, after a deep one: {met:?}");

@@ -314,8 +314,8 @@ fn outputs_and_depths_stay() {
     let (mut dropped, mut same) = (0, 0);
     for round in 0..1500 {
         let g = if round % 50 == 0 { 248 } else { rng.below(60) };
-        let (n, m, xor_only) = (rng.between(1, 6), rng.between(1, 8), rng.once_in(4));
-        let before = random_circuit(&mut rng, n, m, g, xor_only);
+        let (n, m, linear_only) = (rng.between(1, 6), rng.between(1, 8), rng.once_in(4));
+        let before = random_circuit(&mut rng, n, m, g, linear_only);
         let after = sweep(&before);
         assert_eq!(after, plain::sweep(&before));
         assert_eq!(outputs(&after), outputs(&before));
@@ -359,7 +359,7 @@ fn a_sweep_changes_the_counts_and_no_depth() {
 #[test]
 fn a_sweep_under_a_matrix() {
     let before = circuit(2, &[(XOR, 0, 0), (XOR, 0, 1), (XOR, 1, 0)], &[4, 3]);
-    let target = Target::Matrix(vec![3, 2]);
+    let target = Target::sums(&[3, 2]);
     let mut bench = Bench::new();
     bench.open(&circuit::write(&before), target.clone(), LIMITS).unwrap();
     assert_eq!(bench.sweep(), Ok(vec![2]));
@@ -398,7 +398,7 @@ fn nothing_open_is_refused_13() {
 fn refused_appends_come_in_order_and_change_nothing() {
     let pair = circuit(2, &[(XOR, 0, 1)], &[2]);
     let mut bench = Bench::new();
-    bench.open(&circuit::write(&pair), Target::Matrix(vec![3]), LIMITS).unwrap();
+    bench.open(&circuit::write(&pair), Target::sums(&[3]), LIMITS).unwrap();
     let (before, big) = (bench.clone(), u64::MAX);
     for (kind, a, b) in [(7, 9, 9), (big, 9, 9), (256, 0, 1), (300, 0, 0)] {
         assert_eq!(bench.append_gate(kind, a, b), Err(4));
@@ -407,16 +407,18 @@ fn refused_appends_come_in_order_and_change_nothing() {
     for (kind, a, b) in [(2, 3, 0), (0, 0, 3), (2, big, 0), (6, 0, 1), (6, 3, 0), (0, 256, 1), (0, 0, 300)] {
         assert_eq!(bench.append_gate(kind, a, b), Err(5));
     }
-    for kind in 1..=6 {
+    for kind in 2..=5 {
         assert_eq!(bench.append_gate(kind, 2, 0), Err(7));
     }
     assert_eq!(bench, before);
-    assert_eq!(bench.append_gate(0, 2, 2), Ok(vec![3]));
+    for (kind, a, b, line) in [(0, 2, 2, 3), (1, 2, 3, 4), (6, 4, 0, 5)] {
+        assert_eq!(bench.append_gate(kind, a, b), Ok(vec![line]));
+    }
 }
 
 #[test]
 fn the_249th_gate_is_refused_18_before_its_kind() {
-    for (target, m) in [(Target::Table(vec![0; 256]), 8), (Target::Matrix(vec![1; 32]), 32)] {
+    for (target, m) in [(Target::Table(vec![0; 256]), 8), (Target::sums(&[1; 32]), 32)] {
         let full = circuit(8, &[(XOR, 7, 6); 247], &vec![254; m]);
         let mut bench = Bench::new();
         bench.open(&circuit::write(&full), target, LIMITS).unwrap();

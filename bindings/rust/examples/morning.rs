@@ -1,6 +1,6 @@
-//! A designer's morning in Rust: build an XOR program, open it, break a gate, look, ask which lines make its row, mend it, store;
-//! build it for an input that comes late; read an equation file with a slip, mend it, open it with its table; append a gate in
-//! another's place, point an output at it, sweep the other out.
+//! A designer's morning in Rust: build an XOR program, open it, break a gate, look, ask which lines make its row, mend it; give a
+//! row a constant and make its gate an XNOR; store; build it for an input that comes late; read an equation file with a slip, mend
+//! it, open it with its table; append a gate in another's place, point an output at it, sweep the other out.
 
 use allpawasi::{build, build_late, distance, equations, Bench, Limits, Refusal};
 
@@ -12,7 +12,8 @@ fn main() -> Result<(), Refusal> {
 
     let count = build(3, &rows, 2, &mut room)?;
     println!("built {count} bytes");
-    bench.open_matrix(&room[..count], &rows, Limits { gates: 3, depth: 2, and_depth: 0 })?;
+    let with_constants = [3, 7, 6, 0, 0, 0]; // the masks, and a constant for each
+    bench.open_matrix(&room[..count], &with_constants, Limits { gates: 3, depth: 2, and_depth: 0 })?;
     println!("{:?}", bench.report()?.verdict);
 
     println!("reworked {:?}", bench.replace_gate(0, 0, 0, 2)?);
@@ -22,6 +23,10 @@ fn main() -> Result<(), Refusal> {
     println!("{:?}", bench.hint(3, 2));
     println!("{:?}", bench.replace_gate(0, 2, 0, 1));
     bench.replace_gate(0, 0, 0, 1)?;
+    println!("{:?}", bench.report()?.verdict);
+    bench.change_entry(2, 6, 1)?; // row 2 is to be the opposite
+    println!("{:?}", bench.report()?.verdict);
+    println!("reworked {:?}", bench.replace_gate(2, 1, 1, 2)?);
     println!("{:?}", bench.report()?.verdict);
     println!("stored {} bytes", bench.store(&mut room)?);
     println!("{:?}", distance(3, &rows, &[0, 0, 0], 5, 4)?);

@@ -85,7 +85,8 @@ impl Bench {
         Bench(Box::new(raw::Bench::empty()))
     }
 
-    /// Opens a stored circuit; `rows[j]` is the mask of the inputs summed into output j.
+    /// Opens a stored circuit; `rows` are the masks of its m outputs and then their constants, 2m bytes: output j is to be the sum of
+    /// the inputs in `rows[j]` and of the bit `rows[m + j]`. A mask of 0 is an output that is constant.
     pub fn open_matrix(&mut self, bytes: &[u8], rows: &[u8], limits: Limits) -> Result<(), Refusal> {
         accepted(raw::open_matrix(&mut self.0, bytes, rows, limits))
     }
@@ -116,9 +117,9 @@ impl Bench {
         reworked(raw::point_output(&mut self.0, j, line))
     }
 
-    /// Changes row i of a matrix, or the entry of input value i of a table.
-    pub fn change_entry(&mut self, i: usize, value: usize) -> Result<Vec<u16>, Refusal> {
-        reworked(raw::change_entry(&mut self.0, i, value))
+    /// Changes row i of a matrix, its mask and its constant, or the entry of input value i of a table, of which the constant is 0.
+    pub fn change_entry(&mut self, i: usize, value: usize, constant: usize) -> Result<Vec<u16>, Refusal> {
+        reworked(raw::change_entry(&mut self.0, i, value, constant))
     }
 
     pub fn set_limits(&mut self, limits: Limits) -> Result<Vec<u16>, Refusal> {
@@ -146,8 +147,8 @@ impl Bench {
         })
     }
 
-    /// How far a row of the matrix is from the circuit's lines within a depth, by their numbers in the circuit; or none. Lines deeper
-    /// than 15 are left out.
+    /// How far a row of the matrix is from the circuit's lines within a depth, by their numbers in the circuit; or none. Row and lines
+    /// count by their masks, whatever their constants are. Lines deeper than 15 are left out.
     pub fn hint(&self, row: usize, depth: usize) -> Result<Option<Distance>, Refusal> {
         found(raw::hint(&self.0, row, depth))
     }
@@ -164,12 +165,12 @@ impl Bench {
     }
 }
 
-/// Reads a stored circuit and stores it again. `only`: no gate but XOR is allowed.
+/// Reads a stored circuit and stores it again. `only`: no gate but XOR, XNOR and NOT is allowed.
 pub fn restore(bytes: &[u8], only: bool, room: &mut [u8]) -> Result<usize, Refusal> {
     counted(raw::restore(bytes, only, room))
 }
 
-/// Builds an XOR program from a matrix and a depth limit: the stored bytes first in the room, and how many.
+/// Builds an XOR program from a matrix, whose rows are masks without constants, and a depth limit: the stored bytes first in the room, and how many.
 pub fn build(n: usize, rows: &[u8], depth: usize, room: &mut [u8]) -> Result<usize, Refusal> {
     counted(raw::build(n, rows, depth, room))
 }

@@ -105,7 +105,7 @@ extern "C" {
     fn allpawasi_append_gate(bench: &mut Bench, kind: usize, a: usize, b: usize) -> Edit;
     fn allpawasi_sweep(bench: &mut Bench) -> Edit;
     fn allpawasi_point_output(bench: &mut Bench, j: usize, line: usize) -> Edit;
-    fn allpawasi_change_entry(bench: &mut Bench, i: usize, value: usize) -> Edit;
+    fn allpawasi_change_entry(bench: &mut Bench, i: usize, value: usize, constant: usize) -> Edit;
     fn allpawasi_set_limits(bench: &mut Bench, gates: u8, depth: u8, ands: u8) -> Edit;
     fn allpawasi_report(bench: &Bench) -> Figures;
     fn allpawasi_store(bench: &Bench, room: *mut u8, length: usize) -> usize;
@@ -141,8 +141,8 @@ pub fn point_output(bench: &mut Bench, j: usize, line: usize) -> Edit {
     unsafe { allpawasi_point_output(bench, j, line) }
 }
 
-pub fn change_entry(bench: &mut Bench, i: usize, value: usize) -> Edit {
-    unsafe { allpawasi_change_entry(bench, i, value) }
+pub fn change_entry(bench: &mut Bench, i: usize, value: usize, constant: usize) -> Edit {
+    unsafe { allpawasi_change_entry(bench, i, value, constant) }
 }
 
 pub fn set_limits(bench: &mut Bench, limits: Limits) -> Edit {

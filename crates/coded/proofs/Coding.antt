@@ -3,7 +3,7 @@ use mathlib.Core.Path.{_≡_, ap, _∙_}
 use mathlib.Core.List.{List}
 use Prim.Native.Nat.{ℕ}
 use Rattle.circuit.specs.Rules.{answerNo}
-use Rattle.targets.specs.Target.{Target}
+use Rattle.targets.specs.Target.{Brought}
 use Rattle.bench.specs.declared.Bench.{Bench}
 use Rattle.bench.specs.declared.Edit.{Edit}
 use Rattle.bench.specs.declared.Opened.{Opened}
@@ -15,7 +15,7 @@ use Rattle.coded.specs.declared.Opened.{Opened as OpenedNumbers}
 use Rattle.coded.specs.declared.Edited.{Edited as EditedNumbers}
 use Rattle.coded.specs.Coded.{editCode, openCoded, editCoded, OpenCode}
 
-pub open-coded : (b : Bench) (bytes : List ℕ) (t : Target) (l : Limits) (r : Opened) (q : OpenedNumbers)
+pub open-coded : (b : Bench) (bytes : List ℕ) (t : Brought) (l : Limits) (r : Opened) (q : OpenedNumbers)
     → q ≡ openCoded r → OpenPromise b bytes t l (r .answer) (r .bench) → OpenCode b bytes t l (q .refusal) (q .bench)
 unfolding openCoded
 open-coded b bytes t l r q e h = (ap (λ (x : OpenedNumbers). x .refusal) e ∙ ap answerNo (h .0), ap (λ (x : OpenedNumbers). x .bench) e ∙ h .1)

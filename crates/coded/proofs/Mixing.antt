@@ -4,7 +4,7 @@ use mathlib.Core.Logic.{inl, inr}
 use mathlib.Core.List.{List, _∷_}
 use Prim.Native.Nat.{ℕ}
 use Rattle.circuit.specs.declared.Answer.the-variants.{Done}
-use Rattle.targets.specs.Target.{Target}
+use Rattle.targets.specs.Target.{Brought}
 use Rattle.bench.specs.declared.Bench.{Bench}
 use Rattle.bench.specs.State.{Limits, Present, nothing}
 use Rattle.bench.specs.Held.{emptyBench, Stands}
@@ -27,13 +27,13 @@ mixed-runs p k (RunsBy.more {call} mid step rest) =
     RunsBy.more mid here (mixed-runs (afterCall p call) (step-stands p k here) rest)
 
 -- an accepted open on any bench, whatever it holds
-as-opened : {b next : Bench} {bytes : List ℕ} {t : Target} {l : Limits} → openAnswer bytes t ≡ Done
+as-opened : {b next : Bench} {bytes : List ℕ} {t : Brought} {l : Limits} → openAnswer bytes t ≡ Done
     → EitherStep b (opening bytes t l) next → Step emptyBench (opening bytes t l) next
 as-opened e (inl step) = open-otherwise asTheyAre emptyBench e step
 as-opened e (inr step) = open-otherwise asTheyAre emptyBench e step
 
 -- calls that begin with one
-pub mixed-anywhere : {b last : Bench} {bytes : List ℕ} {t : Target} {l : Limits} {calls : List Call} → openAnswer bytes t ≡ Done
+pub mixed-anywhere : {b last : Bench} {bytes : List ℕ} {t : Brought} {l : Limits} {calls : List Call} → openAnswer bytes t ≡ Done
     → MixedRuns b (opening bytes t l ∷ calls) last → Runs emptyBench (opening bytes t l ∷ calls) last
 mixed-anywhere {bytes} {t} {l} e (RunsBy.more mid step rest) =
     let here = as-opened e step in

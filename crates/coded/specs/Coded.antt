@@ -8,7 +8,7 @@ use Rattle.circuit.specs.Rules.{refusalNo, answerNo}
 use Rattle.stored.specs.Writing.{writingCode}
 use Rattle.drawing.specs.declared.Drawn.{Drawn}
 use Rattle.drawing.specs.Drawing.{drawnNo, drawnPlace, drawnCount, drawnAnswer, drawnRoom}
-use Rattle.targets.specs.Target.{Target}
+use Rattle.targets.specs.Target.{Brought}
 use Rattle.bench.specs.declared.Bench.{Bench}
 use Rattle.bench.specs.declared.Edit.{Edit}
 use Rattle.bench.specs.declared.Report.{Report}
@@ -95,7 +95,7 @@ asNumbers =
 -- ---- what the calls promise: as those by value, with each answer as numbers
 
 -- of an open
-abbrev pub OpenCode : Bench → List ℕ → Target → Limits → ℕ → Bench → Type 0
+abbrev pub OpenCode : Bench → List ℕ → Brought → Limits → ℕ → Bench → Type 0
 OpenCode = OpenGiven asNumbers
 
 -- of replacing a gate
@@ -107,7 +107,7 @@ abbrev pub OutputCode : Bench → ℕ → ℕ → EditNumbers → Bench → Type
 OutputCode = OutputGiven asNumbers
 
 -- of changing an entry
-abbrev pub EntryCode : Bench → ℕ → ℕ → EditNumbers → Bench → Type 0
+abbrev pub EntryCode : Bench → ℕ → ℕ → ℕ → EditNumbers → Bench → Type 0
 EntryCode = EntryGiven asNumbers
 
 -- of setting the limits

@@ -1,7 +1,8 @@
 // The calls by value with numbers for answers, as other languages take them: 0 or the refusal's number, and the counts.
 ghost use mathlib.Core.Path.{_≡_};
+ghost use mathlib.Core.Bool.{true, false};
 ghost use Rattle.circuit.specs.Rules.{answerNo};
-ghost use Rattle.targets.specs.Target.{matrix, table};
+ghost use Rattle.targets.specs.Target.{brought};
 ghost use Rattle.bench.specs.State.{limits};
 ghost use Rattle.coded.specs.Coded.{openCoded, editCoded, verdictCode, reportCode, refusedCode, drawnCode, OpenCode, GateCode, OutputCode, EntryCode, LimitsCode, SweepCode, AppendCode, ReportCodePromise, StoreCode, EquationsCode};
 use bench::Bench;
@@ -92,7 +93,7 @@ fn edit_numbers(done: bench::Edited) -> Edited
     Edited { bench, edit }
 }
 
-// Opens a circuit with a matrix for its target.
+// Opens a circuit with a matrix for its target: in `rows` the masks, then the constants.
 pub fn open_matrix(
     bench: Bench,
     bytes: &[u8],
@@ -101,7 +102,7 @@ pub fn open_matrix(
     depth: u8,
     ands: u8,
 ) -> Opened
-    ensures { λ r. ⌜ OpenCode bench (now (bytes .entry)) (matrix (now (rows .entry))) (limits gates depth ands) (r .refusal) (r .bench) ⌝ }
+    ensures { λ r. ⌜ OpenCode bench (now (bytes .entry)) (brought true (now (rows .entry))) (limits gates depth ands) (r .refusal) (r .bench) ⌝ }
 {
     open_numbers(opening::open_matrix(bench, bytes, rows, gates, depth, ands))
 }
@@ -115,7 +116,7 @@ pub fn open_table(
     depth: u8,
     ands: u8,
 ) -> Opened
-    ensures { λ r. ⌜ OpenCode bench (now (bytes .entry)) (table (now (entries .entry))) (limits gates depth ands) (r .refusal) (r .bench) ⌝ }
+    ensures { λ r. ⌜ OpenCode bench (now (bytes .entry)) (brought false (now (entries .entry))) (limits gates depth ands) (r .refusal) (r .bench) ⌝ }
 {
     open_numbers(opening::open_table(bench, bytes, entries, gates, depth, ands))
 }
@@ -134,11 +135,11 @@ pub fn point_output(bench: Bench, j: usize, line: usize) -> Edited
     edit_numbers(edits::point_output(bench, j, line))
 }
 
-// Changes row i of a matrix, or the entry of input value i of a table.
-pub fn change_entry(bench: Bench, i: usize, value: usize) -> Edited
-    ensures { λ r. ⌜ EntryCode bench i value (r .edit) (r .bench) ⌝ }
+// Changes row i of a matrix, mask and constant together, or the entry of input value i of a table, beside which the constant is 0.
+pub fn change_entry(bench: Bench, i: usize, value: usize, constant: usize) -> Edited
+    ensures { λ r. ⌜ EntryCode bench i value constant (r .edit) (r .bench) ⌝ }
 {
-    edit_numbers(edits::change_entry(bench, i, value))
+    edit_numbers(edits::change_entry(bench, i, value, constant))
 }
 
 // Sets the three limits.

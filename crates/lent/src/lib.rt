@@ -1,5 +1,6 @@
 // The outer calls, on a bench that is lent to be changed where it stands. Each is thin: the form by value does the work.
-ghost use Rattle.targets.specs.Target.{matrix, table};
+ghost use mathlib.Core.Bool.{true, false};
+ghost use Rattle.targets.specs.Target.{brought};
 ghost use Rattle.bench.specs.State.{limits};
 ghost use Rattle.bench.specs.Calls.{OpenPromise, GatePromise, OutputPromise, EntryPromise, LimitsPromise, SweepPromise, AppendPromise, ReportPromise, StorePromise};
 ghost use Rattle.hint.specs.Hint.{HintPromise};
@@ -12,7 +13,7 @@ use stored::Writing;
 
 pub mod linked; // linked.rt: the same with numbers for answers, for other languages
 
-// Opens a circuit with a matrix for its target.
+// Opens a circuit with a matrix for its target: `rows` is the masks, and then the constants.
 pub fn open_matrix(
     bench: &mut Bench,
     bytes: &[u8],
@@ -21,7 +22,7 @@ pub fn open_matrix(
     depth: u8,
     ands: u8,
 ) -> Answer
-    ensures { λ r. ⌜ OpenPromise (now (bench .entry)) (now (bytes .entry)) (matrix (now (rows .entry))) (limits gates depth ands) r (now (bench .exit)) ⌝ }
+    ensures { λ r. ⌜ OpenPromise (now (bench .entry)) (now (bytes .entry)) (brought true (now (rows .entry))) (limits gates depth ands) r (now (bench .exit)) ⌝ }
 {
     let done = bench::opening::open_matrix(*bench, bytes, rows, gates, depth, ands);
     *bench = done.bench;
@@ -37,7 +38,7 @@ pub fn open_table(
     depth: u8,
     ands: u8,
 ) -> Answer
-    ensures { λ r. ⌜ OpenPromise (now (bench .entry)) (now (bytes .entry)) (table (now (entries .entry))) (limits gates depth ands) r (now (bench .exit)) ⌝ }
+    ensures { λ r. ⌜ OpenPromise (now (bench .entry)) (now (bytes .entry)) (brought false (now (entries .entry))) (limits gates depth ands) r (now (bench .exit)) ⌝ }
 {
     let done = bench::opening::open_table(*bench, bytes, entries, gates, depth, ands);
     *bench = done.bench;
@@ -62,11 +63,11 @@ pub fn point_output(bench: &mut Bench, j: usize, line: usize) -> Edit
     done.edit
 }
 
-// Changes row i of a matrix, or the entry of input value i of a table.
-pub fn change_entry(bench: &mut Bench, i: usize, value: usize) -> Edit
-    ensures { λ r. ⌜ EntryPromise (now (bench .entry)) i value r (now (bench .exit)) ⌝ }
+// Changes row i of a matrix, mask and constant, or the entry of input value i of a table, beside which the constant is 0.
+pub fn change_entry(bench: &mut Bench, i: usize, value: usize, constant: usize) -> Edit
+    ensures { λ r. ⌜ EntryPromise (now (bench .entry)) i value constant r (now (bench .exit)) ⌝ }
 {
-    let done = bench::edits::change_entry(*bench, i, value);
+    let done = bench::edits::change_entry(*bench, i, value, constant);
     *bench = done.bench;
     done.edit
 }

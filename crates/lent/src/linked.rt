@@ -4,7 +4,7 @@ ghost use Rattle.stored.specs.Writing.{Restored};
 ghost use Rattle.distance.specs.Query.{foundOf, foundCode};
 ghost use Rattle.builder.specs.Call.{BuildsNumbered};
 ghost use Rattle.builder.specs.Late.{BuildsLateNumbered};
-ghost use Rattle.targets.specs.Target.{matrix, table};
+ghost use Rattle.targets.specs.Target.{brought};
 ghost use Rattle.bench.specs.State.{limits};
 ghost use Rattle.hint.specs.Hint.{HintCode};
 ghost use Rattle.coded.specs.Coded.{OpenCode, GateCode, OutputCode, EntryCode, LimitsCode, SweepCode, AppendCode, ReportCodePromise, StoreCode, EquationsCode};
@@ -14,7 +14,7 @@ use coded::ReadingNumbers;
 use coded::ReportNumbers;
 use distance::FoundNumbers;
 
-// Opens a circuit with a matrix for its target.
+// Opens a circuit with a matrix for its target: `rows` is the masks, and then the constants.
 #[no_mangle]
 pub extern "C" fn allpawasi_open_matrix(
     bench: &mut Bench,
@@ -24,7 +24,7 @@ pub extern "C" fn allpawasi_open_matrix(
     depth: u8,
     ands: u8,
 ) -> usize
-    ensures { λ r. ⌜ OpenCode (now (bench .entry)) (now (bytes .entry)) (matrix (now (rows .entry))) (limits gates depth ands) r (now (bench .exit)) ⌝ }
+    ensures { λ r. ⌜ OpenCode (now (bench .entry)) (now (bytes .entry)) (brought true (now (rows .entry))) (limits gates depth ands) r (now (bench .exit)) ⌝ }
 {
     let done = coded::open_matrix(*bench, bytes, rows, gates, depth, ands);
     *bench = done.bench;
@@ -41,7 +41,7 @@ pub extern "C" fn allpawasi_open_table(
     depth: u8,
     ands: u8,
 ) -> usize
-    ensures { λ r. ⌜ OpenCode (now (bench .entry)) (now (bytes .entry)) (table (now (entries .entry))) (limits gates depth ands) r (now (bench .exit)) ⌝ }
+    ensures { λ r. ⌜ OpenCode (now (bench .entry)) (now (bytes .entry)) (brought false (now (entries .entry))) (limits gates depth ands) r (now (bench .exit)) ⌝ }
 {
     let done = coded::open_table(*bench, bytes, entries, gates, depth, ands);
     *bench = done.bench;
@@ -74,12 +74,17 @@ pub extern "C" fn allpawasi_point_output(bench: &mut Bench, j: usize, line: usiz
     done.edit
 }
 
-// Changes row i of a matrix, or the entry of input value i of a table.
+// Changes row i of a matrix, mask and constant, or the entry of input value i of a table, beside which the constant is 0.
 #[no_mangle]
-pub extern "C" fn allpawasi_change_entry(bench: &mut Bench, i: usize, value: usize) -> EditNumbers
-    ensures { λ r. ⌜ EntryCode (now (bench .entry)) i value r (now (bench .exit)) ⌝ }
+pub extern "C" fn allpawasi_change_entry(
+    bench: &mut Bench,
+    i: usize,
+    value: usize,
+    constant: usize,
+) -> EditNumbers
+    ensures { λ r. ⌜ EntryCode (now (bench .entry)) i value constant r (now (bench .exit)) ⌝ }
 {
-    let done = coded::change_entry(*bench, i, value);
+    let done = coded::change_entry(*bench, i, value, constant);
     *bench = done.bench;
     done.edit
 }
@@ -149,7 +154,7 @@ pub extern "C" fn allpawasi_store(bench: &Bench, room: &mut [u8]) -> usize
     coded::store(*bench, room)
 }
 
-// Reads a stored circuit and stores it again. `only`: no gate but XOR is allowed.
+// Reads a stored circuit and stores it again. `only`: no gate but a linear one is allowed.
 #[no_mangle]
 pub extern "C" fn allpawasi_restore(bytes: &[u8], only: bool, room: &mut [u8]) -> usize
     ensures { λ r. ⌜ Restored only (now (bytes .entry)) (now (room .entry)) r (now (room .exit)) ⌝ }

@@ -22,7 +22,7 @@ use Rattle.circuit.proofs.LineLaws.{place}
 use Rattle.circuit.proofs.Depths.{outs-listed, overall-padded}
 use Rattle.circuit.proofs.WordLaws.{words-values}
 use Rattle.circuit.proofs.Padding.{pad-read, padded-length, padded-take}
-use Rattle.circuit.proofs.RuleLaws.{out-below, CircuitFits, circuit-fits}
+use Rattle.circuit.proofs.RuleLaws.{out-below, circuit-fits}
 use Rattle.circuit.proofs.Listed.{line-kept, listed-held}
 use Rattle.targets.specs.Target.{isMatrix}
 use Rattle.targets.proofs.Wanting.{wanted-at}
@@ -31,7 +31,7 @@ use Rattle.bench.specs.declared.Verdict.{Verdict}
 use Rattle.bench.specs.declared.Verdict.the-variants.{Wrong, OverGates, OverDepth, OverAndDepth, Pass}
 use Rattle.bench.specs.declared.Reported.{Reported}
 use Rattle.bench.specs.declared.Reported.the-variants.{Given, NotGiven}
-use Rattle.bench.specs.State.{State, Present, reportOf, differs, least, firstOutput, firstInput, verdictOf}
+use Rattle.bench.specs.State.{State, Sound, Present, reportOf, differs, least, firstOutput, firstInput, verdictOf}
 use Rattle.bench.specs.Held.{fullBench}
 use Rattle.bench.specs.Calls.{reported, ReportPromise}
 use Rattle.bench.proofs.Stood.{openOn, when-open, when-shut}
@@ -66,11 +66,12 @@ module _ (b : Bench) (depth ands x : ℕ) where
 -- ---- on the bench of a state
 
 -- a bench of a state differs where the state does
-differs-is : (s : State) → CircuitFits (isMatrix (s .target)) (s .circuit) → (x j : ℕ) → x < mostValues → j < length (s .circuit .outs)
+differs-is : (s : State) → Sound s → (x j : ℕ) → x < mostValues → j < length (s .circuit .outs)
     → let b = fullBench s in differsIn (b .values) (b .outputs) (b .wanted) x j ≡ differs s x j
 unfolding fullBench
-differs-is s f x j hx hj =
+differs-is s ok x j hx hj =
     let c = s .circuit in
+    let f = circuit-fits (isMatrix (s .target)) c (ok .circuit) in
     let g = length (c .gates) in
     let ws = words (c .inputs) (gateAt c) g in
     let below = out-below (c .inputs + g) (getD (c .outs) j 0) (f .outs j hj) in
@@ -79,7 +80,7 @@ differs-is s f x j hx hj =
     ap (λ (l : ℕ). valueIn (getD (padded mostLines noWords ws) l noWords) x) o
     ∙ ap (λ (w : Words). valueIn w x) (pad-read ws (mostLines - length ws) (getD (c .outs) j 0) noWords)
     ∙ words-values (c .inputs) x (gateAt c) g (getD (c .outs) j 0) hx (f .shape .n-most) in
-    let t = wanted-at (s .target) (length (c .outs)) j x (f .shape .m-most) hj hx in
+    let t = wanted-at (c .inputs) (length (c .outs)) (s .target) (ok .target) (f .shape .m-most) j x hj hx in
     λ i. not (eqb (v i) (t i))
 
 -- what a state's verdict is where no output differs
@@ -90,7 +91,10 @@ byLimits s =
     (cond (ltb (s .limits .andDepth) (andDepthOf (s .circuit))) OverAndDepth
     Pass))
 
-module _ (s : State) (f : CircuitFits (isMatrix (s .target)) (s .circuit)) where
+module _ (s : State) (ok : Sound s) where
+  few : s .circuit .inputs ≤ mostInputs
+  few = circuit-fits (isMatrix (s .target)) (s .circuit) (ok .circuit) .shape .n-most
+
   abbrev full : Bench
   full = fullBench s
 
@@ -102,7 +106,7 @@ module _ (s : State) (f : CircuitFits (isMatrix (s .target)) (s .circuit)) where
   outIn x = least (differsIn (full .values) (full .outputs) (full .wanted) x) m 0
 
   outputs-is : (x : ℕ) → x < mostValues → outIn x ≡ firstOutput s x
-  outputs-is x hx = least-same (differsIn (full .values) (full .outputs) (full .wanted) x) (differs s x) m 0 (λ j l u. differs-is s f x j hx (omega arith))
+  outputs-is x hx = least-same (differsIn (full .values) (full .outputs) (full .wanted) x) (differs s x) m 0 (λ j l u. differs-is s ok x j hx (omega arith))
 
   -- some output differs on input value x
   abbrev some : ℕ → Bool
@@ -123,7 +127,7 @@ module _ (s : State) (f : CircuitFits (isMatrix (s .target)) (s .circuit)) where
 
   longer : least some mostValues 0 ≡ least some (size + (mostValues - size)) 0
   longer =
-      let h = pow-mono {i = s .circuit .inputs} {j = mostInputs} (f .shape .n-most) in
+      let h = pow-mono {i = s .circuit .inputs} {j = mostInputs} few in
       let e : mostValues ≡ size + (mostValues - size) = omega arith in
       ap (λ (k : ℕ). least some k 0) e
 
@@ -146,7 +150,7 @@ module _ (s : State) (f : CircuitFits (isMatrix (s .target)) (s .circuit)) where
   judged-is =
       let F = firstInput s in
       ⊎-elim
-      (λ l. let h = pow-mono {i = s .circuit .inputs} {j = mostInputs} (f .shape .n-most) in
+      (λ l. let h = pow-mono {i = s .circuit .inputs} {j = mostInputs} few in
       ap (λ (x : ℕ). at x (outIn x)) (some-found l) ∙ ap (at F) (outputs-is F (omega arith)))
       (λ m. let u : size ≤ F = ⊎-elim (λ e. omega arith) (λ e. omega arith) m in
       at-past X (outIn X) (none-found u) ∙ sym (at-past F (firstOutput s F) u))
@@ -183,9 +187,8 @@ module _ (b : Bench) (counts : Tally) (depth ands : ℕ) (v : Verdict) where
       let c = s .circuit in
       let g = length (c .gates) in
       let kinds = map (λ (q : Gate). q .kind) (c .gates) in
-      let fits = circuit-fits (isMatrix (s .target)) c (ok .circuit) in
       let k = hc ∙ ap (λ (x : Bench). tallyOf (take (x .g) (x .kinds))) e ∙ ap tallyOf (padded-take mostGates 0 kinds g (sym (length-map (c .gates) _))) in
       let d = hd ∙ ap (λ (x : Bench). atOutputs x (x .depths)) e ∙ at-outputs s (ok .circuit) (depths (c .inputs) (gateAt c) g) in
       let a = ha ∙ ap (λ (x : Bench). atOutputs x (x .«and_depths»)) e ∙ at-outputs s (ok .circuit) (andDepths (c .inputs) (gateAt c) g) in
-      let w = hv ∙ (λ i. judged (e i) (d i) (a i)) ∙ judged-is s fits in
+      let w = hv ∙ (λ i. judged (e i) (d i) (a i)) ∙ judged-is s ok in
       λ i. Given (record { gates = e i .g; counts = k i; depth = d i; «and_depth» = a i; verdict = w i }))

@@ -193,7 +193,7 @@ fn fill(bytes: &[u8]) -> Circuit
     }
 }
 
-// Reads a circuit from its stored form. `only`: no gate but XOR is allowed.
+// Reads a circuit from its stored form. `only`: no gate but a linear one is allowed.
 pub fn read(bytes: &[u8], only: bool) -> Reading
     ensures { λ r. ⌜ r ≡ readingOf only (now (bytes .entry)) ⌝ }
 {

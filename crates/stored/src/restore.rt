@@ -17,7 +17,7 @@ pub fn writing_code(w: Writing) -> usize
     }
 }
 
-// Reads a circuit and stores it again. `only`: no gate but XOR is allowed.
+// Reads a circuit and stores it again. `only`: no gate but a linear one is allowed.
 pub fn restored(bytes: &[u8], only: bool, room: &mut [u8]) -> usize
     ensures { λ r. ⌜ Restored only (now (bytes .entry)) (now (room .entry)) r (now (room .exit)) ⌝ }
 {

@@ -7,13 +7,13 @@ use Rattle.circuit.specs.Lines.{reads, unread, lines, upto}
 use Rattle.circuit.specs.Rules.{shaped, operandsFit, gateAnswer, outAnswer, allOf}
 use Rattle.stored.specs.Stored.{records, listingIn, gateBytes, outBytes}
 use Rattle.stored.specs.Reading.{gateRecord, outRecord, answers, bodyAnswer, readAnswer}
-use Rattle.targets.specs.Target.{entryFits, targetFits}
+use Rattle.targets.specs.Target.{entryFits, targetFits, broughtFits}
 use Rattle.bench.specs.State.{Present, nothing, least, verdictOf, reportOf}
 use Rattle.bench.specs.Calls.{openAnswer, gateEditAnswer, entryEditAnswer, placesFrom, sizeOf, storeAnswer}
 use Rattle.text.specs.Places.{leading, headWord, tailWords, sameList}
 use Rattle.text.specs.Numbers.{numFrom, allHex, hexBytes, hexText, decText, numbersText}
 use Rattle.listing.specs.Printed.{lineName, gateLine, outputLine, linesTo, countsText}
-use Rattle.script.specs.Reading.{number, limit, isPairs, hex, kind, noMore, byWord, orderIn}
+use Rattle.script.specs.Reading.{number, numberOrZero, limit, isPairs, hex, kind, noMore, byWord, orderIn}
 use Rattle.talk.specs.Texts.{reportText, listedText, hexLine, valuesText, groupText}
 use Rattle.talk.specs.Talk.{presentAfterLine, textOf, written}
 
@@ -43,7 +43,7 @@ answered =
     ∷ 10 ∷ []
 
 pub example : written nothing asked ≡ answered
-unfolding leading headWord tailWords sameList numFrom allHex hexBytes decText numbersText number limit isPairs hex kind noMore byWord orderIn countOf tallyOf reads unread lines upto records listingIn shaped operandsFit gateAnswer outAnswer gateRecord outRecord answers bodyAnswer readAnswer entryFits allOf targetFits least verdictOf reportOf openAnswer gateEditAnswer entryEditAnswer placesFrom sizeOf reportText listedText
+unfolding leading headWord tailWords sameList numFrom allHex hexBytes decText numbersText number numberOrZero limit isPairs hex kind noMore byWord orderIn countOf tallyOf reads unread lines upto records listingIn shaped operandsFit gateAnswer outAnswer gateRecord outRecord answers bodyAnswer readAnswer entryFits allOf targetFits broughtFits least verdictOf reportOf openAnswer gateEditAnswer entryEditAnswer placesFrom sizeOf reportText listedText
 example = refl
 
 -- the circuit of that example on the screen, what is held for it, and its stored bytes
@@ -55,17 +55,17 @@ pub is-shown : textOf opened (orderIn (115 ∷ 104 ∷ 111 ∷ 119 ∷ []))
     ≡ 105 ∷ 110 ∷ 112 ∷ 117 ∷ 116 ∷ 115 ∷ 32 ∷ 50 ∷ 32 ∷ 111 ∷ 117 ∷ 116 ∷ 112 ∷ 117 ∷ 116 ∷ 115 ∷ 32 ∷ 49 ∷ 32 ∷ 103 ∷ 97 ∷ 116 ∷ 101 ∷ 115 ∷ 32 ∷ 49 ∷ 32
     ∷ 100 ∷ 101 ∷ 112 ∷ 116 ∷ 104 ∷ 32 ∷ 49 ∷ 32 ∷ 97 ∷ 110 ∷ 100 ∷ 100 ∷ 101 ∷ 112 ∷ 116 ∷ 104 ∷ 32 ∷ 49 ∷ 10 ∷ 116 ∷ 48 ∷ 32 ∷ 61 ∷ 32 ∷ 126 ∷ 40 ∷ 120
     ∷ 48 ∷ 32 ∷ 38 ∷ 32 ∷ 120 ∷ 49 ∷ 41 ∷ 10 ∷ 121 ∷ 48 ∷ 32 ∷ 61 ∷ 32 ∷ 116 ∷ 48 ∷ 10 ∷ 119 ∷ 114 ∷ 111 ∷ 110 ∷ 103 ∷ 32 ∷ 48 ∷ 32 ∷ 48 ∷ 10 ∷ []
-unfolding leading headWord tailWords sameList numFrom allHex hexBytes decText numbersText number limit isPairs hex kind noMore byWord orderIn countOf tallyOf reads unread lines upto records listingIn shaped operandsFit gateAnswer outAnswer gateRecord outRecord answers bodyAnswer readAnswer entryFits allOf targetFits least verdictOf reportOf openAnswer gateEditAnswer entryEditAnswer placesFrom sizeOf reportText listedText hexText gateBytes outBytes storeAnswer lineName gateLine outputLine linesTo countsText hexLine valuesText groupText
+unfolding leading headWord tailWords sameList numFrom allHex hexBytes decText numbersText number numberOrZero limit isPairs hex kind noMore byWord orderIn countOf tallyOf reads unread lines upto records listingIn shaped operandsFit gateAnswer outAnswer gateRecord outRecord answers bodyAnswer readAnswer entryFits allOf targetFits broughtFits least verdictOf reportOf openAnswer gateEditAnswer entryEditAnswer placesFrom sizeOf reportText listedText hexText gateBytes outBytes storeAnswer lineName gateLine outputLine linesTo countsText hexLine valuesText groupText
 is-shown = refl
 
 pub is-held : textOf opened (orderIn (104 ∷ 101 ∷ 108 ∷ 100 ∷ []))
     ≡ 104 ∷ 101 ∷ 108 ∷ 100 ∷ 32 ∷ 51 ∷ 32 ∷ 48 ∷ 58 ∷ 48 ∷ 58 ∷ 48 ∷ 58 ∷ 48 ∷ 97 ∷ 32 ∷ 49 ∷ 58 ∷ 48 ∷ 58 ∷ 48 ∷ 58 ∷ 48 ∷ 99 ∷ 32 ∷ 50 ∷ 58 ∷ 49 ∷ 58
     ∷ 49 ∷ 58 ∷ 48 ∷ 55 ∷ 10 ∷ []
-unfolding leading headWord tailWords sameList numFrom allHex hexBytes decText numbersText number limit isPairs hex kind noMore byWord orderIn countOf tallyOf reads unread lines upto records listingIn shaped operandsFit gateAnswer outAnswer gateRecord outRecord answers bodyAnswer readAnswer entryFits allOf targetFits least verdictOf reportOf openAnswer gateEditAnswer entryEditAnswer placesFrom sizeOf reportText listedText hexText gateBytes outBytes storeAnswer lineName gateLine outputLine linesTo countsText hexLine valuesText groupText
+unfolding leading headWord tailWords sameList numFrom allHex hexBytes decText numbersText number numberOrZero limit isPairs hex kind noMore byWord orderIn countOf tallyOf reads unread lines upto records listingIn shaped operandsFit gateAnswer outAnswer gateRecord outRecord answers bodyAnswer readAnswer entryFits allOf targetFits broughtFits least verdictOf reportOf openAnswer gateEditAnswer entryEditAnswer placesFrom sizeOf reportText listedText hexText gateBytes outBytes storeAnswer lineName gateLine outputLine linesTo countsText hexLine valuesText groupText
 is-held = refl
 
 pub is-stored : textOf opened (orderIn (115 ∷ 116 ∷ 111 ∷ 114 ∷ 101 ∷ 32 ∷ 49 ∷ 51 ∷ []))
     ≡ 115 ∷ 116 ∷ 111 ∷ 114 ∷ 101 ∷ 100 ∷ 32 ∷ 49 ∷ 51 ∷ 32 ∷ 53 ∷ 51 ∷ 52 ∷ 56 ∷ 48 ∷ 50 ∷ 48 ∷ 49 ∷ 48 ∷ 49 ∷ 52 ∷ 55 ∷ 53 ∷ 52 ∷ 48 ∷ 51 ∷ 48 ∷ 48 ∷ 48
     ∷ 49 ∷ 52 ∷ 102 ∷ 53 ∷ 48 ∷ 48 ∷ 50 ∷ 10 ∷ []
-unfolding leading headWord tailWords sameList numFrom allHex hexBytes decText numbersText number limit isPairs hex kind noMore byWord orderIn countOf tallyOf reads unread lines upto records listingIn shaped operandsFit gateAnswer outAnswer gateRecord outRecord answers bodyAnswer readAnswer entryFits allOf targetFits least verdictOf reportOf openAnswer gateEditAnswer entryEditAnswer placesFrom sizeOf reportText listedText hexText gateBytes outBytes storeAnswer lineName gateLine outputLine linesTo countsText hexLine valuesText groupText
+unfolding leading headWord tailWords sameList numFrom allHex hexBytes decText numbersText number numberOrZero limit isPairs hex kind noMore byWord orderIn countOf tallyOf reads unread lines upto records listingIn shaped operandsFit gateAnswer outAnswer gateRecord outRecord answers bodyAnswer readAnswer entryFits allOf targetFits broughtFits least verdictOf reportOf openAnswer gateEditAnswer entryEditAnswer placesFrom sizeOf reportText listedText hexText gateBytes outBytes storeAnswer lineName gateLine outputLine linesTo countsText hexLine valuesText groupText
 is-stored = refl

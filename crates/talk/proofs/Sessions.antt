@@ -21,7 +21,7 @@ use Rattle.text.specs.Places.{headWord, tailWords, sameList}
 use Rattle.text.specs.Numbers.{numberIn, hexBytes}
 use Rattle.text.proofs.Putting.{counted}
 use Rattle.script.specs.Order.{Order, silent, unreadable, askNew, askReport, askGate, askOutput, askEntry, askLimits, askSweep, askAppend, askStore, askHeld, askShow, askHint, askBuild, askLate, askDistance, askEquations}
-use Rattle.script.specs.Reading.{Rest, onValue, number, limit, isHex, hex, matrixWord, tableWord, kind, noMore, Table, byWord, askOpen, openRest, gateRest, outputRest, entryRest, appendRest, hintRest, buildRest, lateRest, distanceRest, equationsRest, bytesCalls, editCalls, calls, orderIn}
+use Rattle.script.specs.Reading.{Rest, onValue, number, numberOrZero, limit, isHex, hex, matrixWord, tableWord, kind, noMore, Table, byWord, askOpen, openRest, gateRest, outputRest, entryRest, appendRest, hintRest, buildRest, lateRest, distanceRest, equationsRest, bytesCalls, editCalls, calls, orderIn}
 use Rattle.talk.specs.declared.Told.{Told}
 use Rattle.talk.specs.Talk.{Deed, clearing, calling, deedOf, presentBy, presentAfterLine, presentAfterLines, textOf, written, Answers}
 
@@ -58,6 +58,11 @@ by-value Not p = none
 good-number : (f : ℕ → Rest) → ((v : ℕ) → Good (f v)) → Good (number f)
 unfolding number
 good-number f p s = by-value (numberIn (headWord s)) (λ v. p v (tailWords s))
+
+-- after a number that may be left out
+good-or-zero : (f : ℕ → Rest) → ((v : ℕ) → Good (f v)) → Good (numberOrZero f)
+unfolding numberOrZero
+good-or-zero f p s = either (ltb 0 (length (headWord s))) (good-number f p s) (p 0 s)
 
 -- after a byte
 byte-only : (v : ℕ) {x : Order} → (v ≤ 255 → Limited x) → Limited (cond (leb v 255) x unreadable)
@@ -135,7 +140,7 @@ good-output : Good outputRest
 good-output = good-number _ (λ j. good-number _ (λ line. good-end (askOutput j line) (tt, tt)))
 
 good-entry : Good entryRest
-good-entry = good-number _ (λ i. good-number _ (λ value. good-end (askEntry i value) (tt, tt)))
+good-entry = good-number _ (λ i. good-number _ (λ value. good-or-zero _ (λ constant. good-end (askEntry i value constant) (tt, tt))))
 
 good-append : Good appendRest
 good-append = good-number _ (λ t. good-number _ (λ a. good-number _ (λ b. good-end (askAppend t a b) (tt, tt))))

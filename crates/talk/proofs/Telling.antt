@@ -4,7 +4,7 @@ use mathlib.Core.Bool.{Bool, true, false}
 use mathlib.Core.List.{List}
 use Prim.Native.Nat.{ℕ}
 use Rattle.circuit.specs.declared.Answer.{Answer}
-use Rattle.targets.specs.Target.{matrix, table, targetOf}
+use Rattle.targets.specs.Target.{brought}
 use Rattle.bench.specs.declared.Bench.{Bench}
 use Rattle.bench.specs.State.{Present, limits}
 use Rattle.bench.specs.Held.{benchOf, Stands}
@@ -37,15 +37,15 @@ answers-as {b} {o} {q} {out} {after} {r} e a = subst (λ (x : Order). Answers b 
 -- an open with a target of either kind, over the same bytes by other names
 module _ (b next : Bench) (out after us vs : List ℕ) (g d a : ℕ) (answer : Answer) (r : Told) (s : (r .bench ≡ next) × Said out after (r .len) (openText answer)) where
   -- by the kind of the target
-  open-either : (only : Bool) → OpenPromise b us (targetOf only vs) (limits g d a) answer next → Answers b (askOpen only us vs g d a) out after r
+  open-either : (only : Bool) → OpenPromise b us (brought only vs) (limits g d a) answer next → Answers b (askOpen only us vs g d a) out after r
   open-either true f =
-      answers-call openText (λ (p : Present). openAnswer us (matrix vs)) r (λ p k. (f .0, f .1 ∙ open-stands b us (matrix vs) (limits g d a) k)) (λ p. refl) s
+      answers-call openText (λ (p : Present). openAnswer us (brought true vs)) r (λ p k. (f .0, f .1 ∙ open-stands b us (brought true vs) (limits g d a) k)) (λ p. refl) s
   open-either false f =
-      answers-call openText (λ (p : Present). openAnswer us (table vs)) r (λ p k. (f .0, f .1 ∙ open-stands b us (table vs) (limits g d a) k)) (λ p. refl) s
+      answers-call openText (λ (p : Present). openAnswer us (brought false vs)) r (λ p k. (f .0, f .1 ∙ open-stands b us (brought false vs) (limits g d a) k)) (λ p. refl) s
 
   -- over bytes that are the same
-  pub answers-open : (only : Bool) (xs ys : List ℕ) → xs ≡ us → ys ≡ vs → OpenPromise b xs (targetOf only ys) (limits g d a) answer next
+  pub answers-open : (only : Bool) (xs ys : List ℕ) → xs ≡ us → ys ≡ vs → OpenPromise b xs (brought only ys) (limits g d a) answer next
       → Answers b (askOpen only us vs g d a) out after r
   answers-open only xs ys e f p =
-      open-either only (subst (λ (z : List ℕ). OpenPromise b us (targetOf only z) (limits g d a) answer next) f
-      (subst (λ (z : List ℕ). OpenPromise b z (targetOf only ys) (limits g d a) answer next) e p))
+      open-either only (subst (λ (z : List ℕ). OpenPromise b us (brought only z) (limits g d a) answer next) f
+      (subst (λ (z : List ℕ). OpenPromise b z (brought only ys) (limits g d a) answer next) e p))

@@ -6,7 +6,7 @@ ghost use Rattle.stored.specs.Stored.{stored};
 ghost use Rattle.builder.specs.Call.{built, buildAnswer};
 ghost use Rattle.builder.specs.Late.{lateBuilt, lateAnswer, BuildsLate};
 ghost use Rattle.distance.specs.Query.{foundOf};
-ghost use Rattle.targets.specs.Target.{targetOf};
+ghost use Rattle.targets.specs.Target.{brought};
 ghost use Rattle.text.specs.Putting.{Put};
 ghost use Rattle.bench.specs.Calls.{OpenPromise};
 ghost use Rattle.bench.specs.State.{limits};
@@ -143,7 +143,7 @@ fn told_open(done: Opened, out: &mut [u8; OUT]) -> Told
 // An open of what stands in two parts of a room, with a target of either kind.
 fn open_parts(b: Bench, matrix: bool, room: &[u8], ends: Ends, o: Opening) -> Opened
     requires { ⌜ (ends .mid ≤ ends .end) × (ends .end ≤ length (now room)) ⌝ }
-    ensures { λ r. ⌜ OpenPromise b (take (ends .mid) (now (room .entry))) (targetOf matrix (take (ends .end - ends .mid) (drop (ends .mid) (now (room .entry))))) (limits (o .gates) (o .depth) (o .ands)) (r .answer) (r .bench) ⌝ }
+    ensures { λ r. ⌜ OpenPromise b (take (ends .mid) (now (room .entry))) (brought matrix (take (ends .end - ends .mid) (drop (ends .mid) (now (room .entry))))) (limits (o .gates) (o .depth) (o .ands)) (r .answer) (r .bench) ⌝ }
 {
     let mid = ends.mid;
     let end = ends.end;
@@ -206,11 +206,11 @@ pub(crate) fn tell_output(b: Bench, e: OutputEdit, out: &mut [u8; OUT]) -> Told
     told_edit(point_output(b, e.j, e.line), out)
 }
 
-// `entry I VALUE`.
+// `entry I VALUE` or `entry I VALUE CONSTANT`.
 pub(crate) fn tell_entry(b: Bench, e: EntryEdit, out: &mut [u8; OUT]) -> Told
-    ensures { λ r. ⌜ Answers b (askEntry (e .i) (e .value)) (now (out .entry)) (now (out .exit)) r ⌝ }
+    ensures { λ r. ⌜ Answers b (askEntry (e .i) (e .value) (e .constant)) (now (out .entry)) (now (out .exit)) r ⌝ }
 {
-    told_edit(change_entry(b, e.i, e.value), out)
+    told_edit(change_entry(b, e.i, e.value, e.constant), out)
 }
 
 // `limits G D A`.

@@ -51,17 +51,19 @@ pub fn circuit_depths(circuit: &Circuit) -> (u8, u8) {
     greatest
 }
 
-/// The target that a circuit meets: its outputs on every input value, or the inputs summed into each
-/// output of an XOR program, which are those that alone make it 1. A table has eight outputs at most.
+/// The target that a circuit meets: its outputs on every input value, or for each output of a linear circuit what
+/// it is on input value 0, and the inputs that alone make it another. A table has eight outputs at most.
 pub fn target_met(circuit: &Circuit, matrix: bool) -> Target {
     let outputs = |x| {
         let values = values(circuit, x);
         circuit.outs.iter().map(|&line| values[line as usize] as u8).collect::<Vec<u8>>()
     };
     if matrix {
+        let constants = outputs(0);
         let alone: Vec<Vec<u8>> = (0..circuit.n).map(|i| outputs(1 << i)).collect();
-        let row = |j: usize| alone.iter().enumerate().map(|(i, outputs)| outputs[j] << i).sum();
-        Target::Matrix((0..circuit.outs.len()).map(row).collect())
+        let turned = |j: usize, outputs: &Vec<u8>| (outputs[j] != constants[j]) as u8;
+        let mask = |j: usize| alone.iter().enumerate().map(|(i, outputs)| turned(j, outputs) << i).sum();
+        Target::Matrix { masks: (0..circuit.outs.len()).map(mask).collect(), constants }
     } else {
         let entry = |x| outputs(x).iter().take(8).enumerate().map(|(j, value)| value << j).sum();
         Target::Table((0..1 << circuit.n).map(entry).collect())
@@ -71,7 +73,9 @@ pub fn target_met(circuit: &Circuit, matrix: bool) -> Target {
 /// What a target asks of output j on an input value.
 fn asked(target: &Target, x: usize, j: usize) -> bool {
     match target {
-        Target::Matrix(rows) => (rows[j] as usize & x).count_ones() % 2 == 1,
+        Target::Matrix { masks, constants } => {
+            ((masks[j] as usize & x).count_ones() + u32::from(constants[j])) % 2 == 1
+        }
         Target::Table(entries) => entries[x] >> j & 1 == 1,
     }
 }
@@ -131,15 +135,24 @@ pub fn readers(circuit: &Circuit, k: usize) -> Vec<usize> {
     }
 }
 
-/// The smallest set of lines that makes a row within depth D, which is 15 at most, and of these the first. Every
+/// The mask of every line of a linear circuit, gate by gate: XOR and XNOR sum the masks of what they read, and NOT
+/// has the mask of what it reads.
+pub fn masks(circuit: &Circuit) -> Vec<u8> {
+    let mut masks: Vec<u8> = (0..circuit.n).map(|i| 1 << i).collect();
+    for gate in &circuit.gates {
+        let a = masks[gate.a as usize];
+        masks.push(if gate.kind == NOT { a } else { a ^ masks[gate.b as usize] });
+    }
+    masks
+}
+
+/// The smallest set of lines that makes a mask within depth D, which is 15 at most, and of these the first. Every
 /// line stands in the base, in its own place; one that is deeper than 15 stands there as deep as 16, and fits in
 /// no set.
-pub fn hint(circuit: &Circuit, row: u8, d: u8) -> Option<Vec<usize>> {
-    let alone: Vec<Vec<bool>> = (0..circuit.n).map(|i| values(circuit, 1 << i)).collect();
-    let mask = |line: usize| alone.iter().enumerate().map(|(i, values)| (values[line] as u8) << i).sum();
-    let depths = depths(circuit);
-    let base: Vec<Line> = (0..circuit.lines()).map(|line| (mask(line), depths[line].0.min(16))).collect();
-    smallest_set(&base, row, d)
+pub fn hint(circuit: &Circuit, target: u8, d: u8) -> Option<Vec<usize>> {
+    let depths = depths(circuit).into_iter().map(|(depth, _)| depth.min(16));
+    let base: Vec<Line> = masks(circuit).into_iter().zip(depths).collect();
+    smallest_set(&base, target, d)
 }
 
 /// The gate of a line, where the line is no input.

@@ -15,7 +15,8 @@ edit-numbers-requires c κs = search needs
 returns : tie.Need-returns
 returns c =
     let a = c .before .before .args in
-    edit-coded (a .bench) (λ (p : Present). noRework (entryEditAnswer p (a .i) (a .value))) (λ (p : Present). afterEntry p (a .i) (a .value)) _ _ (c .edit-numbers .ensures) (c .before .change-entry .ensures)
+    edit-coded (a .bench) (λ (p : Present). noRework (entryEditAnswer p (a .i) (a .value) (a .constant)))
+    (λ (p : Present). afterEntry p (a .i) (a .value) (a .constant)) _ _ (c .edit-numbers .ensures) (c .before .change-entry .ensures)
 
 pub change-entry-spec : {M : Type 1} → statement M
 change-entry-spec = tie.close (tie.spec change-entry-requires edit-numbers-requires returns)

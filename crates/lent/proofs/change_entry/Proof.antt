@@ -13,5 +13,5 @@ use Rattle.lent.proofs.change_entry.Statement.{statement}
 pub change-entry-spec : {M : Type 1} → statement M
 unfolding code.routine
 change-entry-spec 𝓤 H 𝓜 𝓖 𝓡 =
-    edited-by edited (number w64 (number w64 none)) (λ _ p a r q. EntryPromise p (a .0) (a .1 .0) r q) 𝓤 H 𝓜 𝓖 𝓡
+    edited-by edited (number w64 (number w64 (number w64 none))) (λ _ p a r q. EntryPromise p (a .0) (a .1 .0) (a .1 .1 .0) r q) 𝓤 H 𝓜 𝓖 𝓡
     code.env name inner.name inner.routine (code.unfolded 𝓤 H 𝓜 𝓡) code.calls-bench·edits·change-entry (met 𝓤 H 𝓜 𝓖 𝓡)

@@ -13,5 +13,5 @@ use Rattle.lent.proofs.linked.allpawasi_change_entry.Statement.{stateme
 pub allpawasi-change-entry-spec : {M : Type 1} → statement M
 unfolding code.routine
 allpawasi-change-entry-spec 𝓤 H 𝓜 𝓖 𝓡 =
-    edited-by editedNumbers (number w64 (number w64 none)) (λ _ p a r q. EntryCode p (a .0) (a .1 .0) r q) 𝓤 H 𝓜 𝓖 𝓡
+    edited-by editedNumbers (number w64 (number w64 (number w64 none))) (λ _ p a r q. EntryCode p (a .0) (a .1 .0) (a .1 .1 .0) r q) 𝓤 H 𝓜 𝓖 𝓡
     code.env name inner.name inner.routine (code.unfolded 𝓤 H 𝓜 𝓡) code.calls-coded·change-entry (met 𝓤 H 𝓜 𝓖 𝓡)

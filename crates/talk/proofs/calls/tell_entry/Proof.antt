@@ -17,7 +17,7 @@ told-edit-requires c κs = search needs
 returns : tie.Need-returns
 returns c =
     let e = c .before .before .before .args .e in
-    answers-call editText (λ (p : Present). noRework (entryEditAnswer p (e .i) (e .value))) (c .told-edit .result) (c .before .before .change-entry .ensures) (λ p. refl) (c .told-edit .ensures)
+    answers-call editText (λ (p : Present). noRework (entryEditAnswer p (e .i) (e .value) (e .constant))) (c .told-edit .result) (c .before .before .change-entry .ensures) (λ p. refl) (c .told-edit .ensures)
 
 pub tell-entry-spec : {M : Type 1} → statement M
 tell-entry-spec = tie.close (tie.spec change-entry-requires told-edit-requires returns)
