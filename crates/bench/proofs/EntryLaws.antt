@@ -105,9 +105,9 @@ module _ (i value constant : ℕ) where
         small = below-byte n value n8 (ltb-true value (2 ^ n) (u .0));
         bit = omega (arith, ltb-true constant 2 (u .1));
         bytes =
-          ap (λ (l : List ℕ). set l (m + i) constant) (padded-set mostValues 0 bytes i value (omega arith))
-          ∙ padded-set mostValues 0 (set bytes i value) (m + i) constant (omega (arith, length-set bytes i value))
-          ∙ ap (padded mostValues 0) (ap (λ (k : ℕ). set (set bytes i value) (k + i) constant) (sym l) ∙ set-row rows i value constant (omega arith));
+            ap (λ (l : List ℕ). set l (m + i) constant) (padded-set mostValues 0 bytes i value (omega arith))
+            ∙ padded-set mostValues 0 (set bytes i value) (m + i) constant (omega (arith, length-set bytes i value))
+            ∙ ap (padded mostValues 0) (ap (λ (k : ℕ). set (set bytes i value) (k + i) constant) (sym l) ∙ set-row rows i value constant (omega arith));
         fits = λ j. many j && each j;
       }
   entry-right c (table entries) n8 m32 f a =

@@ -162,19 +162,19 @@ fn look_at_entry(
 
 // The target's bytes with entry i changed: a row's constant stands behind all masks, m bytes past its mask.
 fn enter(
-    only: bool,
+    matrix: bool,
     m: usize,
     bytes: [u8; VALUES],
     i: usize,
     value: u8,
     constant: u8,
 ) -> [u8; VALUES]
-    requires { ⌜ (m ≤ mostOutputs) × (i < mostValues) × (only ≡ true → i < m) ⌝ }
-    ensures { λ r. ⌜ r ≡ entered only m bytes i value constant ⌝ }
+    requires { ⌜ (m ≤ mostOutputs) × (i < mostValues) × (matrix ≡ true → i < m) ⌝ }
+    ensures { λ r. ⌜ r ≡ entered matrix m bytes i value constant ⌝ }
 {
     let mut target = bytes;
     target[i] = value;
-    if only {
+    if matrix {
         target[m + i] = constant;
     }
     target

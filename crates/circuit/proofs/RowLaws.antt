@@ -1,5 +1,6 @@
 -- Laws of rows: on a narrow input value, summed, and of the lines of a circuit. Where no gate is nonlinear, each line is its row. Assumes nothing.
-use mathlib.Core.Path.{_≡_, ap, ap₂, _∙_, sym}
+use mathlib.Core.Path.{_≡_, refl, ap, ap₂, _∙_, sym}
+use mathlib.Core.Bool.{true}
 use mathlib.Core.Logic.{⊎-elim}
 use mathlib.Core.List.{List, [], _∷_, map}
 use Prim.Native.Nat.{ℕ, zero, suc, _+_, _-_, _*_, _/_, _%_, _^_, _≤_, _<_}
@@ -8,13 +9,16 @@ use native.Mathlib.Omega.{arith}
 use lib.Bits.{bitAnd, bitXor, xor-lt, xor-step, xor-zero-r, differ}
 use lib.ListN.{length, getD, take, List·getD-eq-default}
 use lib.Pow.{pow-pos, pow-lt, pow-mono}
+use Rattle.circuit.specs.declared.Answer.the-variants.{Done}
 use Rattle.circuit.specs.Sizes.{mostInputs, mostValues, maskWidth}
 use Rattle.circuit.specs.Gate.{Kind, bit, rowOn, truth, kindOf, nonlinear, operands}
 use Rattle.circuit.specs.Lines.{Gate, Listing, gateAt, lines, reads, upto, inputsOn, truthStep, values}
 use Rattle.circuit.specs.Rows.{Row, onRow, sumOf, maskStep, inputMasks, masks, lineRow}
+use Rattle.circuit.specs.Rules.{listingAnswer}
 use Rattle.circuit.proofs.GateLaws.{bit-and, bit-lt, bit-above, differ-sum, differ-none, differ-lt}
 use Rattle.circuit.proofs.LineLaws.{snoc-all, place, lines-length, lines-one, lines-at}
 use Rattle.circuit.proofs.ParityLaws.{parity-lt, row-xor, row-none, row-input, differ-swap}
+use Rattle.circuit.proofs.RuleLaws.{gate-fits, circuit-fits}
 use Rattle.circuit.proofs.Upto.{upto-at, upto-length}
 
 -- ---- a narrow input value
@@ -35,24 +39,6 @@ pub on-row-narrow : (r : Row) (x : ℕ) → x < mostValues → onRow r x ≡ dif
 unfolding onRow
 on-row-narrow r x h = ap (λ (u : ℕ). differ u (r .constant)) (row-narrow mostInputs (maskWidth - mostInputs) (r .mask) x h)
 
--- ---- rows summed
-
--- of two values, each 0 or 1
-two-bits : (a b : ℕ) → a < 2 → b < 2 → bitXor a b ≡ differ a b
-two-bits a b p q =
-    let none : (z : ℕ) → z < 2 → z / 2 ≡ 0 = λ z h. omega arith in
-    let same : (z : ℕ) → z < 2 → z % 2 ≡ z = λ z h. omega arith in
-    xor-step a b ∙ (λ i. bitXor (none a p i) (none b q i) * 2 + differ (same a p i) (same b q i)) ∙ zero-add (differ a b)
-
--- what some masks have on an input value, summed, is what the sum of the masks has
-pub sum-on : (w x : ℕ) (ms : List ℕ) → sumOf (map (λ (m : ℕ). rowOn w m x) ms) ≡ rowOn w (sumOf ms) x
-unfolding sumOf
-sum-on w x [] = sym (row-none w x)
-sum-on w x (m ∷ ms) =
-    ap (bitXor (rowOn w m x)) (sum-on w x ms)
-    ∙ two-bits (rowOn w m x) (rowOn w (sumOf ms) x) (parity-lt w (bitAnd m x)) (parity-lt w (bitAnd (sumOf ms) x))
-    ∙ sym (row-xor w m (sumOf ms) x)
-
 -- ---- what bounds each line
 
 -- what holds of f 0, f 1, .. and of what counts past the end holds at each place of the list
@@ -61,11 +47,11 @@ unfolding upto
 upto-each P f d pd zero pf i = pd
 upto-each P f d pd (suc n) pf i = snoc-all P (upto f n) (f n) d pd (upto-each P f d pd n (λ k h. pf k (omega arith))) (pf n (omega arith)) i
 
--- some masks of n inputs sum to one
-sum-small : (n : ℕ) (p : List ℕ) → ((i : ℕ) → getD p i 0 < 2 ^ n) → (rs : List ℕ) → sumOf (map (λ (i : ℕ). getD p i 0) rs) < 2 ^ n
+-- numbers of n digits sum to one
+pub sum-small : (n : ℕ) (f : ℕ → ℕ) → ((i : ℕ) → f i < 2 ^ n) → (rs : List ℕ) → sumOf (map f rs) < 2 ^ n
 unfolding sumOf
-sum-small n p f [] = pow-pos n
-sum-small n p f (r ∷ rs) = xor-lt n (getD p r 0) _ (f r) (sum-small n p f rs)
+sum-small n f h [] = pow-pos n
+sum-small n f h (r ∷ rs) = xor-lt n (f r) _ (h r) (sum-small n f h rs)
 
 -- a mask has none but the inputs there are
 pub masks-small : (n : ℕ) (gates : ℕ → Gate) (j i : ℕ) → getD (masks n gates j) i 0 < 2 ^ n
@@ -73,7 +59,7 @@ unfolding lines
 masks-small n gates zero i = upto-each (λ (m : ℕ). m < 2 ^ n) (λ (k : ℕ). 2 ^ k) 0 (pow-pos n) n (λ k h. pow-lt {i = k} {j = n} h) i
 masks-small n gates (suc j) i =
     let p = masks n gates j in
-    snoc-all (λ (m : ℕ). m < 2 ^ n) p _ 0 (pow-pos n) (masks-small n gates j) (sum-small n p (masks-small n gates j) (reads (gates j))) i
+    snoc-all (λ (m : ℕ). m < 2 ^ n) p _ 0 (pow-pos n) (masks-small n gates j) (sum-small n (λ (k : ℕ). getD p k 0) (masks-small n gates j) (reads (gates j))) i
 
 -- what a gate gives for values that are 0 or 1 is 0 or 1
 truth-lt : (k : Kind) (a b : ℕ) → a < 2 → b < 2 → truth k a b < 2
@@ -103,6 +89,13 @@ values-small x n gates (suc j) i =
 
 -- ---- each line is its row
 
+-- the sum of two values, each 0 or 1
+two-bits : (a b : ℕ) → a < 2 → b < 2 → bitXor a b ≡ differ a b
+two-bits a b p q =
+    let none : (z : ℕ) → z < 2 → z / 2 ≡ 0 = λ z h. omega arith in
+    let same : (z : ℕ) → z < 2 → z % 2 ≡ z = λ z h. omega arith in
+    xor-step a b ∙ (λ i. bitXor (none a p i) (none b q i) * 2 + differ (same a p i) (same b q i)) ∙ zero-add (differ a b)
+
 -- a row turned is the row with its constant turned
 differ-not : (a c : ℕ) → a < 2 → c < 2 → 1 - differ a c ≡ differ a (1 - c)
 differ-not a c p q = omega (arith, differ-sum a c p q, differ-sum a (1 - c) p (omega arith))
@@ -117,14 +110,30 @@ module _ (w x : ℕ) (v m z : ℕ → ℕ) (small : (i : ℕ) → z i < 2) (each
   on-lt : (u : ℕ) → on u < 2
   on-lt u = parity-lt w (bitAnd u x)
 
-  -- two lines summed
+  -- two rows summed
+  add-linear : (a c b d : ℕ) → c < 2 → d < 2 → differ (differ (on a) c) (differ (on b) d) ≡ differ (on (bitXor a b)) (differ c d)
+  add-linear a c b d p q = differ-swap (on a) c (on b) d (on-lt a) p (on-lt b) q ∙ ap (λ (u : ℕ). differ u (differ c d)) (sym (row-xor w a b x))
+
+  -- some lines summed
+  pub sum-linear : (rs : List ℕ) → sumOf (map v rs) ≡ differ (on (sumOf (map m rs))) (sumOf (map z rs))
+  unfolding sumOf
+  sum-linear [] = sym (ap (λ (u : ℕ). differ u 0) (row-none w x))
+  sum-linear (r ∷ rs) =
+      let u = sumOf (map m rs) in
+      let y = sumOf (map z rs) in
+      let y-lt = sum-small 1 z small rs in
+      ap₂ bitXor (each r) (sum-linear rs)
+      ∙ two-bits _ _ (differ-lt _ _ (on-lt (m r)) (small r)) (differ-lt _ _ (on-lt u) y-lt)
+      ∙ add-linear (m r) (z r) u y (small r) y-lt
+      ∙ ap (differ (on (bitXor (m r) u))) (sym (two-bits (z r) y (small r) y-lt))
+
+  -- two lines that a gate sums
   two-linear : (a b : ℕ) → differ (v a) (v b) ≡ differ (on (sumOf (m a ∷ m b ∷ []))) (differ (z a) (z b))
   unfolding sumOf
   two-linear a b =
       ap₂ differ (each a) (each b)
-      ∙ differ-swap (on (m a)) (z a) (on (m b)) (z b) (on-lt (m a)) (small a) (on-lt (m b)) (small b)
-      ∙ ap (λ (u : ℕ). differ u (differ (z a) (z b)))
-      (sym (ap (λ (u : ℕ). on (bitXor (m a) u)) (xor-zero-r (m b)) ∙ row-xor w (m a) (m b) x))
+      ∙ add-linear (m a) (z a) (m b) (z b) (small a) (small b)
+      ∙ ap (λ (u : ℕ). differ (on (bitXor (m a) u)) (differ (z a) (z b))) (sym (xor-zero-r (m b)))
 
   -- a gate of each kind, which reads as many of lines a and b as its kind has operands
   kind-linear : (k : Kind) → nonlinear k ≡ 0 → (a b : ℕ) → let rs = take (operands k) (a ∷ b ∷ []) in
@@ -201,3 +210,10 @@ pub line-linear : (c : Listing) → c .inputs ≤ maskWidth → ((k : ℕ) → k
     → (x i : ℕ) → getD (values x (c .inputs) (gateAt c) (length (c .gates))) i 0 ≡ onRow (lineRow c i) x
 unfolding onRow
 line-linear c few linear x i = lines-linear x (c .inputs) (gateAt c) few (length (c .gates)) linear i
+
+-- as in one that may stand under a matrix
+pub matrix-linear : (c : Listing) → listingAnswer true c ≡ Done
+    → (x i : ℕ) → getD (values x (c .inputs) (gateAt c) (length (c .gates))) i 0 ≡ onRow (lineRow c i) x
+matrix-linear c ok =
+    let f = circuit-fits true c ok in
+    line-linear c (omega (arith, f .shape .n-most)) (λ k h. gate-fits true (c .inputs + k) (gateAt c k) (f .gates k h) .linear refl)

@@ -3,11 +3,10 @@ use mathlib.Core.Path.{_≡_, refl, sym}
 use mathlib.Core.Bool.{Bool, true, false, true≢false, not, _&&_, _||_}
 use mathlib.Core.Logic.{_↔_, _⊎_, inl, inr}
 use mathlib.Core.List.{List, [], _∷_, map}
-use Prim.Native.Nat.{ℕ, zero, suc, _≤_, _<_}
+use Prim.Native.Nat.{ℕ, _≤_, _<_}
 use native.Mathlib.Omega.{arith}
 use borrow.Author.Tests.{ltb-true, ltb-false, leb-true, leb-false, eqb-true, eqb-false, not-true, not-false}
 use lib.Dec.{leb, ltb, eqb}
-use lib.ListN.{length, getD}
 use Rattle.circuit.specs.Lines.{anyOf}
 
 -- ---- tables
@@ -24,9 +23,10 @@ accepted n = n ≡ 0
 abbrev pub GivenExactly : ℕ → (ℕ → Type 0) → Type 0
 GivenExactly number table = (n : ℕ) → (number ≡ n) ↔ table n
 
--- some entry of a list is so
-abbrev pub Some : (ℕ → Type 0) → List ℕ → Type 0
-Some P xs = (i : ℕ) × ((i < length xs) × P (getD xs i 0))
+-- some entry of a list is so: the first, or one of the others
+abbrev pub Some : {A : Type 0} → (A → Type 0) → List A → Type 0
+Some P [] = ⊥
+Some P (x ∷ xs) = P x ⊎ Some P xs
 
 -- ---- a cause that is there, one that is not, and the end
 
@@ -122,17 +122,9 @@ pub fails-le : (a b : ℕ) → Fails (leb a b) (b < a)
 fails-le a b = record { holds = leb-false a b; not-else = λ e h. omega (arith, leb-true a b e) }
 
 -- a test of each entry of a list
-pub tells-some : {f : ℕ → Bool} {P : ℕ → Type 0} → ((x : ℕ) → Tells (f x) (P x)) → (xs : List ℕ) → Tells (anyOf (map f xs)) (Some P xs)
-tells-some each [] = record { holds = λ e. absurd (true≢false (sym e)); not-else = λ e s. absurd (omega (arith, s .1 .0)) }
-tells-some {f} {P} each (x ∷ xs) = tells-as into out (tells-or (each x) (tells-some each xs))
-  where
-    into : P x ⊎ Some P xs → Some P (x ∷ xs)
-    into (inl p) = (0, (omega arith, p))
-    into (inr s) = (suc (s .0), (omega (arith, s .1 .0), s .1 .1))
-
-    out : Some P (x ∷ xs) → P x ⊎ Some P xs
-    out (zero, h) = inl (h .1)
-    out (suc i, h) = inr (i, (omega (arith, h .0), h .1))
+pub tells-some : {A : Type 0} {f : A → Bool} {P : A → Type 0} → ((x : A) → Tells (f x) (P x)) → (xs : List A) → Tells (anyOf (map f xs)) (Some P xs)
+tells-some each [] = record { holds = λ e. absurd (true≢false (sym e)); not-else = λ e s. s }
+tells-some each (x ∷ xs) = tells-or (each x) (tells-some each xs)
 
 -- ---- chains of tests
 

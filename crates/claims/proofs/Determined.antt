@@ -69,7 +69,7 @@ use Rattle.formula.specs.Emit.{gatesAt, readAt, useLine}
 use Rattle.formula.proofs.Unique as reading
 use Rattle.drawing.specs.declared.Drawn.{Drawn}
 use Rattle.drawing.specs.Drawing.{EquationsPromise}
-use Rattle.targets.specs.Target.{Target}
+use Rattle.targets.specs.Target.{Brought}
 use Rattle.bench.specs.declared.Bench.{Bench}
 use Rattle.bench.specs.State.{Limits, Present}
 use Rattle.bench.specs.Held.{emptyBench, Stands}
@@ -169,7 +169,7 @@ call-in-determined = lines.call-unique
 
 module _ (v : View) where
   -- an open on any bench, whatever it holds
-  pub open-determined : (b : Bench) (bytes : List ℕ) (t : Target) (l : Limits) (r s : v .Answers) (c d : Bench)
+  pub open-determined : (b : Bench) (bytes : List ℕ) (t : Brought) (l : Limits) (r s : v .Answers) (c d : Bench)
       → OpenGiven v b bytes t l r c → OpenGiven v b bytes t l s d → (r ≡ s) × (c ≡ d)
   open-determined = benches.open-unique v
 
@@ -187,7 +187,8 @@ module _ (v : View) where
     pub point-output-determined : (j line : ℕ) (r s : v .Edits) (c d : Bench) → OutputGiven v b j line r c → OutputGiven v b j line s d → (r ≡ s) × (c ≡ d)
     point-output-determined = benches.point-output-unique v b now stands
 
-    pub change-entry-determined : (i value : ℕ) (r s : v .Edits) (c d : Bench) → EntryGiven v b i value r c → EntryGiven v b i value s d → (r ≡ s) × (c ≡ d)
+    pub change-entry-determined : (i value constant : ℕ) (r s : v .Edits) (c d : Bench) → EntryGiven v b i value constant r c
+        → EntryGiven v b i value constant s d → (r ≡ s) × (c ≡ d)
     change-entry-determined = benches.change-entry-unique v b now stands
 
     pub set-limits-determined : (l : Limits) (r s : v .Edits) (c d : Bench) → LimitsGiven v b l r c → LimitsGiven v b l s d → (r ≡ s) × (c ≡ d)

@@ -2,7 +2,7 @@
 -- was; what is stored is the circuit that the file says, and opens but for its target. The causes in their order are `equationsTable` in Tables.
 use mathlib.Core.Path.{_≡_, refl, sym, ap, ap₂, _∙_, subst}
 use mathlib.Core.Bool.{true, false, cond}
-use mathlib.Core.Logic.{_↔_, _⊎_, inr, ⊎-elim}
+use mathlib.Core.Logic.{_↔_, _⊎_, inl, inr, ⊎-elim}
 use mathlib.Core.List.{List, [], _∷_, _++_}
 use Prim.Native.Nat.{ℕ, _+_, _-_, _*_, _<_}
 use native.Mathlib.Omega.{arith}
@@ -28,12 +28,12 @@ use Rattle.drawing.specs.Drawing.{drawnNo, drawnPlace, drawnCount, sketchOf, dr
 use Rattle.drawing.proofs.Rooms.{drawn-room, drawn-stored, drawn-refused}
 use Rattle.meaning.specs.Meaning.{fileSays, operatorsIn, setsOutput, MadeOf}
 use Rattle.meaning.proofs.Answers.{drawn, stored-says, stored-made, opens}
-use Rattle.targets.specs.Target.{Target, isMatrix}
+use Rattle.targets.specs.Target.{Brought}
 use Rattle.bench.specs.Calls.{openAnswer}
 use Rattle.coded.specs.declared.ReadingNumbers.{ReadingNumbers}
 use Rattle.coded.specs.Coded.{drawnCode, EquationsCode}
 use Rattle.claims.proofs.Causes.{GivenExactly, Some}
-use Rattle.claims.proofs.Tables.{BrokenTarget, OtherThanXor, openedTable, BadTextAt, equationsTable}
+use Rattle.claims.proofs.Tables.{BrokenTarget, SomeNonlinear, openedTable, BadTextAt, equationsTable}
 use Rattle.claims.proofs.Following.{opened-law}
 use Rattle.claims.proofs.FilesFollow.{equations-law, text-law, name-law, enough-law}
 use Rattle.claims.proofs.FirstDemand.{refusalOf, numbered, not-zero, not-of-files, stored-length}
@@ -52,12 +52,12 @@ drawn-left NoOutputs bytes room some = refl
 drawn-left (NotStored w) bytes room some = refl
 
 drawn-among : (s : List ℕ) (room : ℕ) (d : Drawn) → drawnAnswer s room ≡ d → Some (λ (n : ℕ). drawnNo d ≡ n) (0 ∷ 15 ∷ 16 ∷ 17 ∷ 1 ∷ 11 ∷ [])
-drawn-among s room (Stored k) e = (0, (omega arith, refl))
-drawn-among s room (BadText place) e = (1, (omega arith, refl))
-drawn-among s room (BadName place) e = (2, (omega arith, refl))
-drawn-among s room NoOutputs e = (3, (omega arith, refl))
+drawn-among s room (Stored k) e = inl refl
+drawn-among s room (BadText place) e = inr (inl refl)
+drawn-among s room (BadName place) e = inr (inr (inl refl))
+drawn-among s room NoOutputs e = inr (inr (inr (inl refl)))
 drawn-among s room (NotStored w) e =
-    ⊎-elim (λ p. (4, (omega arith, ap refusalNo p))) (λ p. (5, (omega arith, ap refusalNo (p .0)))) (drawn-refused s room w e)
+    inr (inr (inr (inr (⊎-elim (λ p. inl (ap refusalNo p)) (λ p. inr (inl (ap refusalNo (p .0)))) (drawn-refused s room w e)))))
 
 module _ (s room : List ℕ) (r : Drawn) (out : List ℕ) (h : EquationsPromise s room r out) where
   held : out ≡ roomDrawn r (drawnBytes s) room
@@ -179,7 +179,8 @@ module _ (s room : List ℕ) (r : ReadingNumbers) (out : List ℕ) (h : Equation
 
   -- No number but these is given.
   pub equations-among-numbered : Some (λ (n : ℕ). r .refusal ≡ n) (0 ∷ 15 ∷ 16 ∷ 17 ∷ 1 ∷ 11 ∷ [])
-  equations-among-numbered = let g = equations-among s room answer out by-value in (g .0, (g .1 .0, number-is ∙ g .1 .1))
+  equations-among-numbered =
+      subst (λ (k : ℕ). Some (λ (n : ℕ). k ≡ n) (0 ∷ 15 ∷ 16 ∷ 17 ∷ 1 ∷ 11 ∷ [])) (sym number-is) (equations-among s room answer out by-value)
 
   -- an answer that has its place beside its number
   placed-numbered : (number p : ℕ) {P : Type 0} (at : Drawn) → (answer ≡ at) ↔ P → drawnOf number (r .count) p ≡ at → drawnNo at ≡ number → drawnPlace at ≡ p
@@ -239,10 +240,10 @@ module _ (s room : List ℕ) (r : Drawn) (out : List ℕ) (h : EquationsPromise 
     pub read-made : (l : List Assignment) → File s l → MadeOf s l c
     read-made l file = subst (MadeOf s l) circuit-is (stored-made s (length room) k stored-so l file)
 
-    -- and no open refuses the bytes but for its target: under a matrix for a gate other than XOR (7), and for the target's own rule (8).
-    pub read-opens : (t : Target) → GivenExactly (answerNo (openAnswer (take k out) t)) (openedTable c t)
+    -- and no open refuses the bytes but for its target: under a matrix for a nonlinear gate (7), and for the target's own rule (8).
+    pub read-opens : (t : Brought) → GivenExactly (answerNo (openAnswer (take k out) t)) (openedTable c t)
     read-opens = opened-law (take k out) c back
 
-    -- So a table that keeps its rule opens, and a matrix that does where each gate is XOR.
-    pub read-opened : (t : Target) → (isMatrix t ≡ true → OtherThanXor c → ⊥) → (BrokenTarget (c .inputs) (length (c .outs)) t → ⊥) → openAnswer (take k out) t ≡ Done
-    read-opened t xor fits = done-zero (openAnswer (take k out) t) (read-opens t 0 .1 (inr (λ x. xor (x .0) (x .1), inr (fits, refl))))
+    -- So a table that keeps its rule opens, and a matrix that does where no gate is nonlinear.
+    pub read-opened : (t : Brought) → (t .ofMatrix ≡ true → SomeNonlinear c → ⊥) → (BrokenTarget (c .inputs) (length (c .outs)) t → ⊥) → openAnswer (take k out) t ≡ Done
+    read-opened t linear fits = done-zero (openAnswer (take k out) t) (read-opens t 0 .1 (inr (λ x. linear (x .0) (x .1), inr (fits, refl))))

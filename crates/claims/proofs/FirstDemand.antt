@@ -8,7 +8,7 @@ use native.Mathlib.Omega.{arith}
 use lib.Dec.{leb}
 use lib.ListN.{length, getD, length-append}
 use Rattle.circuit.specs.declared.Refusal.{Refusal}
-use Rattle.circuit.specs.declared.Refusal.the-variants.{Target as BadTarget, NoRoom, NotThere, Shape, Length, Mark, UnknownKind, Operand, NoLine, NotXor, TooDeep, TooShallow, NothingOpen, Full}
+use Rattle.circuit.specs.declared.Refusal.the-variants.{Target as BadTarget, NoRoom, NotThere, Shape, Length, Mark, UnknownKind, Operand, NoLine, NotLinear, TooDeep, TooShallow, NothingOpen, Full}
 use Rattle.circuit.specs.declared.Answer.{Answer}
 use Rattle.circuit.specs.declared.Answer.the-variants.{Done, Refused}
 use Rattle.circuit.specs.declared.Circuit.{Circuit}
@@ -44,7 +44,7 @@ use Rattle.builder.specs.Late.{lateBuilt, lateRefusal, lateAnswer, BuildsLate, 
 use Rattle.builder.proofs.Theorems as building
 use Rattle.drawing.specs.declared.Drawn.the-variants.{BadText, BadName, NoOutputs}
 use Rattle.drawing.specs.Drawing.{drawnNo}
-use Rattle.targets.specs.Target.{Target, isMatrix}
+use Rattle.targets.specs.Target.{isMatrix, Brought}
 use Rattle.bench.specs.declared.Bench.{Bench}
 use Rattle.bench.specs.declared.Edit.{Edit}
 use Rattle.bench.specs.declared.Reported.{Reported}
@@ -66,7 +66,7 @@ use Rattle.claims.proofs.Following.{range-law, done-last, read-law, ope
 
 abbrev pub refusals : List Refusal
 refusals =
-    Shape ∷ Length ∷ Mark ∷ UnknownKind ∷ Operand ∷ NoLine ∷ NotXor ∷ BadTarget ∷ TooDeep ∷ TooShallow ∷ NoRoom ∷ NotThere ∷ NothingOpen ∷ Full ∷ []
+    Shape ∷ Length ∷ Mark ∷ UnknownKind ∷ Operand ∷ NoLine ∷ NotLinear ∷ BadTarget ∷ TooDeep ∷ TooShallow ∷ NoRoom ∷ NotThere ∷ NothingOpen ∷ Full ∷ []
 
 pub numbers : map refusalNo refusals ≡ 1 ∷ 2 ∷ 3 ∷ 4 ∷ 5 ∷ 6 ∷ 7 ∷ 8 ∷ 9 ∷ 10 ∷ 11 ∷ 12 ∷ 13 ∷ 18 ∷ []
 numbers = refl
@@ -82,7 +82,7 @@ numbered Mark = refl
 numbered UnknownKind = refl
 numbered Operand = refl
 numbered NoLine = refl
-numbered NotXor = refl
+numbered NotLinear = refl
 numbered BadTarget = refl
 numbered TooDeep = refl
 numbered TooShallow = refl
@@ -124,7 +124,7 @@ pub call-numbers : (p : Present) (call : Call) → GivenExactly (callNo p call) 
 call-numbers p (opening bytes t l) = open-law bytes t
 call-numbers p (replacing k kind a b) = replace-law p k kind a b
 call-numbers p (pointing j line) = point-law p j line
-call-numbers p (changing i value) = change-law p i value
+call-numbers p (changing i value constant) = change-law p i value constant
 call-numbers p (limiting l) = limits-law p
 call-numbers p sweeping = sweep-law p
 call-numbers p (appending kind a b) = append-law p kind a b
@@ -138,8 +138,9 @@ refused-changes-nothing nothing (replacing k kind a b) h = refl
 refused-changes-nothing (present s) (replacing k kind a b) h = unless-done (gateEditAnswer (present s) k kind a b) (gateEdited s k kind a b) (present s) h
 refused-changes-nothing nothing (pointing j line) h = refl
 refused-changes-nothing (present s) (pointing j line) h = unless-done (outputEditAnswer (present s) j line) (outputEdited s j line) (present s) h
-refused-changes-nothing nothing (changing i value) h = refl
-refused-changes-nothing (present s) (changing i value) h = unless-done (entryEditAnswer (present s) i value) (entryEdited s i value) (present s) h
+refused-changes-nothing nothing (changing i value constant) h = refl
+refused-changes-nothing (present s) (changing i value constant) h =
+    unless-done (entryEditAnswer (present s) i value constant) (entryEdited s i value constant) (present s) h
 refused-changes-nothing nothing (limiting l) h = refl
 refused-changes-nothing (present s) (limiting l) h = absurd (h refl)
 refused-changes-nothing nothing sweeping h = refl
@@ -176,7 +177,7 @@ written-size false size k e = let z : _≡_ {A = ℕ} 0 1 = cc in absurd (omega 
 pub stored-length : (c : Listing) → length (stored c) ≡ 5 + 5 * length (c .gates) + 3 * length (c .outs)
 stored-length c = omega (arith, length-append (gateBytes (c .gates)) (outBytes (c .outs)), gate-bytes-length (c .gates), out-bytes-length (c .outs))
 
--- Reading stored bytes: fewer than 5 (2), `SH` (3), shape (1), whole length (2), then record by record mark (3), kind (4), operands (5), XOR only (7), line (6).
+-- Reading stored bytes: fewer than 5 (2), `SH` (3), shape (1), whole length (2), then record by record mark (3), kind (4), operands (5), linear only (7), line (6).
 pub read-numbers : (only : Bool) (s : List ℕ) (r : Reading) → r ≡ readingOf only s → GivenExactly (answerNo (r .answer)) (readTable only s accepted)
 read-numbers only s r e =
     subst (λ (a : Answer). GivenExactly (answerNo a) (readTable only s accepted))
@@ -288,7 +289,7 @@ distance-numbered n ms ds t D r e =
 
 -- ==== Open, on any bench, whatever it holds: as reading, last the target (8). A refused open keeps the earlier bench.
 
-module _ (b : Bench) (bytes : List ℕ) (t : Target) (l : Limits) (next : Bench) where
+module _ (b : Bench) (bytes : List ℕ) (t : Brought) (l : Limits) (next : Bench) where
   open-kept : (a : Answer) → (answerNo a ≡ 0 → ⊥) → benchAfterOpen a (openState bytes t l) b ≡ b
   open-kept Done h = absurd (h refl)
   open-kept (Refused w) h = refl
@@ -412,12 +413,12 @@ module _ {b : Bench} {calls : List Call} (run : Runs emptyBench calls b) where
     pub point-refused : (w : Refusal) → edit .answer ≡ Refused w → (next ≡ b) × (edit ≡ noRework (Refused w))
     point-refused = reworkless (pointing j line) edit (outputEditAnswer now j line) next refl (h now stands) .1
 
-  module _ (i value : ℕ) (edit : Edit) (next : Bench) (h : EntryPromise b i value edit next) where
-    pub change-numbers : GivenExactly (answerNo (edit .answer)) (changeTable now i value)
-    change-numbers = reworkless (changing i value) edit (entryEditAnswer now i value) next refl (h now stands) .0
+  module _ (i value constant : ℕ) (edit : Edit) (next : Bench) (h : EntryPromise b i value constant edit next) where
+    pub change-numbers : GivenExactly (answerNo (edit .answer)) (changeTable now i value constant)
+    change-numbers = reworkless (changing i value constant) edit (entryEditAnswer now i value constant) next refl (h now stands) .0
 
     pub change-refused : (w : Refusal) → edit .answer ≡ Refused w → (next ≡ b) × (edit ≡ noRework (Refused w))
-    change-refused = reworkless (changing i value) edit (entryEditAnswer now i value) next refl (h now stands) .1
+    change-refused = reworkless (changing i value constant) edit (entryEditAnswer now i value constant) next refl (h now stands) .1
 
   module _ (l : Limits) (edit : Edit) (next : Bench) (h : LimitsPromise b l edit next) where
     pub limits-numbers : GivenExactly (answerNo (edit .answer)) (openOnly now)
@@ -451,8 +452,9 @@ module _ {b : Bench} {calls : List Call} (run : Runs emptyBench calls b) where
   pub point-numbered : (j line : ℕ) (edit : EditNumbers) (next : Bench) → OutputCode b j line edit next → Numbered (pointing j line) (edit .refusal) next
   point-numbered j line edit next h = coded (pointing j line) (edit .refusal) next (ap (λ (e : EditNumbers). e .refusal) (h now stands .0)) (h now stands .1)
 
-  pub change-numbered : (i value : ℕ) (edit : EditNumbers) (next : Bench) → EntryCode b i value edit next → Numbered (changing i value) (edit .refusal) next
-  change-numbered i value edit next h = coded (changing i value) (edit .refusal) next (ap (λ (e : EditNumbers). e .refusal) (h now stands .0)) (h now stands .1)
+  pub change-numbered : (i value constant : ℕ) (edit : EditNumbers) (next : Bench) → EntryCode b i value constant edit next → Numbered (changing i value constant) (edit .refusal) next
+  change-numbered i value constant edit next h =
+      coded (changing i value constant) (edit .refusal) next (ap (λ (e : EditNumbers). e .refusal) (h now stands .0)) (h now stands .1)
 
   pub limits-numbered : (l : Limits) (edit : EditNumbers) (next : Bench) → LimitsCode b l edit next → Numbered (limiting l) (edit .refusal) next
   limits-numbered l edit next h = coded (limiting l) (edit .refusal) next (ap (λ (e : EditNumbers). e .refusal) (h now stands .0)) (h now stands .1)

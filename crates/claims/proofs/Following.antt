@@ -6,21 +6,22 @@ use mathlib.Core.List.{List, [], _∷_, map}
 use Prim.Native.Nat.{ℕ, zero, suc, _+_, _*_, _^_, _≤_, _<_}
 use native.Mathlib.Nat.{add-zero}
 use native.Mathlib.Omega.{arith}
-use borrow.Author.Tests.{leb-true, eqb-true}
+use borrow.Author.Tests.{leb-true, eqb-true, eqb-false}
 use lib.Dec.{leb, eqb}
 use lib.ListN.{length, getD, drop}
 use lib.Seq.{getD-drop, drop-drop}
 use Rattle.circuit.specs.declared.Refusal.{Refusal}
 use Rattle.circuit.specs.declared.Circuit.{Circuit}
-use Rattle.circuit.specs.declared.Refusal.the-variants.{Shape, Length, Mark, UnknownKind, Operand, NotXor, Target as BadTarget, TooDeep, TooShallow, NoRoom, NotThere, Full}
+use Rattle.circuit.specs.declared.Refusal.the-variants.{Shape, Length, Mark, UnknownKind, Operand, NotLinear, Target as BadTarget, TooDeep, TooShallow, NoRoom, NotThere, Full}
 use Rattle.circuit.specs.declared.Answer.{Answer}
 use Rattle.circuit.specs.declared.Answer.the-variants.{Done, Refused}
-use Rattle.circuit.specs.Gate.{kindOf, allowed}
+use Rattle.circuit.specs.Gate.{kindOf, nonlinear, allowed}
 use Rattle.circuit.specs.Lines.{Gate, Listing, gate, anyOf}
 use Rattle.circuit.specs.Structs.{listed}
+use Rattle.circuit.specs.Rows.{Row, row}
 use Rattle.circuit.specs.Rules.{refusalNo, answerNo, andThen, unless, shaped, operandsFit, gateAnswer, outAnswer, allOf}
 use Rattle.circuit.specs.Sizes.{mostInputs, mostOutputs, mostGates}
-use Rattle.circuit.proofs.GateLaws.{allowed-number}
+use Rattle.circuit.proofs.GateLaws.{low-xor, middle-nonlinear, high-counts}
 use Rattle.circuit.proofs.Operands.{by-operands}
 use Rattle.circuit.proofs.RuleLaws.{two-fit, one-fits}
 use Rattle.circuit.proofs.Shapes.{past, then-done}
@@ -39,12 +40,13 @@ use Rattle.distance.specs.Query.{anyFrom, badLists, badMask, badDepth, refuse, 
 use Rattle.builder.specs.Rule.{rowsOf}
 use Rattle.builder.specs.Call.{built, badRow, tooHeavy, refusal, buildAnswer}
 use Rattle.builder.specs.Late.{lateBuilt, listsFit, anyDeep, tooLate, lateRefusal, lateAnswer}
-use Rattle.targets.specs.Target.{Target, matrix, table, isMatrix, rowFits, entryFits, targetFits}
+use Rattle.targets.specs.Target.{Target, matrix, table, isMatrix, rowFits, entryFits, targetFits, rowsIn, Brought, brought, broughtFits}
+use Rattle.targets.proofs.Fitting as fitting
 use Rattle.bench.specs.State.{Present, nothing, present}
 use Rattle.bench.specs.Calls.{openAnswer, gateEditAnswer, outputEditAnswer, entryAnswer, entryEditAnswer, limitsAnswer, sweepEdit, appendAnswer, reported, storeAnswer}
 use Rattle.coded.specs.Coded.{reportedCode}
 use Rattle.claims.proofs.Causes.{first, accepted, GivenExactly, Some, none-left, Tells, Fails, tells-as, fails-as, fails-where-not, not-fails, not-tells, tells-or, tells-lt, tells-le, tells-eq, fails-and, fails-lt, fails-le, tells-some, chain-under, chain, chain-on}
-use Rattle.claims.proofs.Tables.{OutOfRange, BadOperand, gateTable, BadRow, BrokenTarget, recordsTable, gateRecordTable, outRecordTable, bodyTable, readTable, openTable, openedTable, replaceTable, appendTable, pointTable, entryCauses, changeTable, openOnly, storeTable, buildTable, LateRow, lateTable, distanceTable}
+use Rattle.claims.proofs.Tables.{OutOfRange, BadOperand, NonlinearKind, gateTable, BadRow, BrokenRow, BrokenBytes, BrokenTarget, recordsTable, gateRecordTable, outRecordTable, bodyTable, readTable, openTable, openedTable, replaceTable, appendTable, pointTable, entryCauses, changeTable, openOnly, storeTable, buildTable, LateRow, lateTable, distanceTable}
 
 pub range-law : (n m g : ℕ) → Fails (shaped n m g) (OutOfRange n m g)
 unfolding shaped
@@ -82,46 +84,65 @@ operand-law line kind a b k =
         back (inr (inl x)) = inr (x .1)
         back (inr (inr x)) = let e : kind ≡ 6 = omega arith in absurd (x .0 e)
 
-only-law : (only : Bool) (kind : ℕ) → Fails (allowed only (kindOf kind)) ((only ≡ true) × (kind ≡ 0 → ⊥))
-only-law only kind = subst (λ (t : Bool). Fails t ((only ≡ true) × (kind ≡ 0 → ⊥))) (sym (allowed-number only kind)) (by only)
-  where
-    by : (only : Bool) → Fails (not only || eqb kind 0) ((only ≡ true) × (kind ≡ 0 → ⊥))
-    by true = fails-as (λ h. (refl, h)) (λ h. h .1) (fails-where-not (tells-eq kind 0))
-    by false = record { holds = λ e. absurd (true≢false e); not-else = λ e h. true≢false (sym (h .0)) }
+-- a kind is linear
+abbrev linearKind : ℕ → Bool
+linearKind kind = eqb (nonlinear (kindOf kind)) 0
 
-row-law : (n row : ℕ) → Fails (rowFits n row) (BadRow n row)
+-- kinds 2 to 5 are nonlinear, and no others
+linear-law : (kind : ℕ) → Fails (linearKind kind) (NonlinearKind kind)
+linear-law kind =
+    record {
+      holds = λ e.
+          let low : kind ≤ 1 → ⊥ = λ h. eqb-false (nonlinear (kindOf kind)) 0 e (low-xor kind h .nonlinears) in
+          let high : 6 ≤ kind → ⊥ = λ h. eqb-false (nonlinear (kindOf kind)) 0 e (high-counts kind h .nonlinears) in
+          (omega (arith, low), omega (arith, high));
+      not-else = λ e h. omega (arith, eqb-true (nonlinear (kindOf kind)) 0 e, middle-nonlinear kind (h .0) (h .1) .nonlinears);
+    }
+
+only-law : (only : Bool) (kind : ℕ) → Fails (allowed only (kindOf kind)) ((only ≡ true) × NonlinearKind kind)
+only-law true kind = fails-as (λ h. (refl, h)) (λ h. h .1) (linear-law kind)
+only-law false kind = record { holds = λ e. absurd (true≢false e); not-else = λ e h. true≢false (sym (h .0)) }
+
+row-law : (n : ℕ) (r : Row) → Fails (rowFits n r) (BrokenRow n r)
 unfolding rowFits
-row-law n row = fails-as into back (fails-and (fails-lt 0 row) (fails-lt row (2 ^ n)))
-  where
-    into : (row ≤ 0) ⊎ (2 ^ n ≤ row) → BadRow n row
-    into (inl h) = inl (omega arith)
-    into (inr h) = inr h
-
-    back : BadRow n row → (row ≤ 0) ⊎ (2 ^ n ≤ row)
-    back (inl h) = inl (omega arith)
-    back (inr h) = inr h
+row-law n r = fails-and (fails-lt (r .mask) (2 ^ n)) (fails-lt (r .constant) 2)
 
 entry-law : (m entry : ℕ) → Fails (entryFits m entry) (2 ^ m ≤ entry)
 unfolding entryFits
 entry-law m entry = fails-lt entry (2 ^ m)
 
-all-law : (f : ℕ → Bool) {P : ℕ → Type 0} → ((x : ℕ) → Fails (f x) (P x)) → (xs : List ℕ) → Fails (allOf f xs) (Some P xs)
+all-law : {A : Type 0} (f : A → Bool) {P : A → Type 0} → ((x : A) → Fails (f x) (P x)) → (xs : List A) → Fails (allOf f xs) (Some P xs)
 unfolding allOf
-all-law f {P} each xs = subst (λ (t : Bool). Fails t (Some P xs)) (same xs) (not-fails (tells-some (λ x. not-tells (each x)) xs))
+all-law {A} f {P} each xs = subst (λ (t : Bool). Fails t (Some P xs)) (same xs) (not-fails (tells-some (λ x. not-tells (each x)) xs))
   where
     swap : (t u v : Bool) → not v ≡ u → not (not t || v) ≡ (t && u)
     swap true u v e = e
     swap false u v e = refl
 
-    same : (xs : List ℕ) → not (anyOf (map (λ (x : ℕ). not (f x)) xs)) ≡ allOf f xs
+    same : (xs : List A) → not (anyOf (map (λ (x : A). not (f x)) xs)) ≡ allOf f xs
     same [] = refl
     same (x ∷ xs) = swap (f x) (allOf f xs) _ (same xs)
 
-pub target-law : (n m : ℕ) (t : Target) → Fails (targetFits n m t) (BrokenTarget n m t)
+-- some rows as a target
+pub rows-law : (n m : ℕ) (rows : List Row) → Fails (targetFits n m (matrix rows)) ((length rows ≡ m → ⊥) ⊎ Some (BrokenRow n) rows)
 unfolding targetFits
-target-law n m (matrix rows) = fails-and (fails-where-not (tells-eq (length rows) m)) (all-law (rowFits n) (row-law n) rows)
-target-law n m (table entries) =
-    fails-and (fails-le m 8) (fails-and (fails-where-not (tells-eq (length entries) (2 ^ n))) (all-law (entryFits m) (entry-law m) entries))
+rows-law n m rows = fails-and (fails-where-not (tells-eq (length rows) m)) (all-law (rowFits n) (row-law n) rows)
+
+-- a target as it is brought
+bytes-law : (only : Bool) (n m : ℕ) (bytes : List ℕ) → Fails (broughtFits n m (brought only bytes)) (BrokenBytes only n m bytes)
+unfolding broughtFits targetFits
+bytes-law true n m bytes =
+    subst (λ (t : Bool). Fails t (BrokenBytes true n m bytes)) (by (eqb (length bytes) (m + m)) refl)
+    (fails-and (fails-where-not (tells-eq (length bytes) (m + m))) (all-law (rowFits n) (row-law n) (rowsIn n m bytes)))
+  where
+    by : (t : Bool) → eqb (length bytes) (m + m) ≡ t → (t && allOf (rowFits n) (rowsIn n m bytes)) ≡ broughtFits n m (brought true bytes)
+    by true e = fitting.rows-fit true n m bytes refl (eqb-true (length bytes) (m + m) e)
+    by false e = fitting.rows-unfit true n m bytes refl (eqb-false (length bytes) (m + m) e)
+bytes-law false n m bytes =
+    fails-and (fails-le m 8) (fails-and (fails-where-not (tells-eq (length bytes) (2 ^ n))) (all-law (entryFits m) (entry-law m) bytes))
+
+pub target-law : (n m : ℕ) (t : Brought) → Fails (broughtFits n m t) (BrokenTarget n m t)
+target-law n m t = bytes-law (t .ofMatrix) n m (t .bytes)
 
 -- a test in a chain of answers that goes on to another
 test : (w : Refusal) (a next : Answer) {t : Bool} {cause : Type 0} {rest : ℕ → Type 0} → Fails t cause → GivenExactly (answerNo (andThen a next)) rest
@@ -140,7 +161,7 @@ module _ {rest : ℕ → Type 0} (next : Answer) (g : GivenExactly (answerNo nex
   gate-law : (only : Bool) (line kind a b : ℕ) → GivenExactly (answerNo (andThen (gateAnswer only line (gate kind a b)) next)) (gateTable only line kind a b rest)
   unfolding gateAnswer
   gate-law only line kind a b =
-      let operands = unless (operandsFit line (gate kind a b)) Operand (unless (allowed only (kindOf kind)) NotXor Done) in
+      let operands = unless (operandsFit line (gate kind a b)) Operand (unless (allowed only (kindOf kind)) NotLinear Done) in
       chain-under (λ t. answerNo (andThen (unless t UnknownKind operands) next)) (fails-le kind 6)
       (λ e. test _ _ _ (operand-law line kind a b (leb-true kind 6 e)) (test _ _ _ (only-law only kind) g))
 
@@ -197,43 +218,43 @@ module _ {rest : ℕ → Type 0} (next : Answer) (g : GivenExactly (answerNo nex
   unfolding readAnswer
   read-law = test _ _ _ (fails-le 5 (length s)) (test _ _ _ (mark-law (getD s 0 0) (getD s 1 0) 83 72) (body-law (getD s 2 0) (getD s 3 0) (getD s 4 0)))
 
-pub open-law : (s : List ℕ) (t : Target) → GivenExactly (answerNo (openAnswer s t)) (openTable s t)
+pub open-law : (s : List ℕ) (t : Brought) → GivenExactly (answerNo (openAnswer s t)) (openTable s t)
 unfolding openAnswer listingIn
 open-law s t =
     let m = records-length outIn 3 (getD s 3 0) (drop (5 + 5 * getD s 4 0) s) in
     let last = chain (λ t. answerNo (unless t BadTarget Done)) (target-law (getD s 2 0) (getD s 3 0) t) none-left in
-    subst (λ (k : ℕ). GivenExactly (answerNo (andThen (readAnswer (isMatrix t) s) (unless (targetFits (getD s 2 0) k t) BadTarget Done))) (openTable s t)) (sym m)
-    (read-law (unless (targetFits (getD s 2 0) (getD s 3 0) t) BadTarget Done) last (isMatrix t) s)
+    subst (λ (k : ℕ). GivenExactly (answerNo (andThen (readAnswer (t .ofMatrix) s) (unless (broughtFits (getD s 2 0) k t) BadTarget Done))) (openTable s t)) (sym m)
+    (read-law (unless (broughtFits (getD s 2 0) (getD s 3 0) t) BadTarget Done) last (t .ofMatrix) s)
 
--- ---- bytes that read as a circuit: under a matrix they are refused for a gate other than XOR alone,
+-- ---- bytes that read as a circuit: under a matrix they are refused for a nonlinear gate alone,
 
-gate-under : (line p q kind a b : ℕ) → gateRecord false line p q kind a b ≡ Done → gateRecord true line p q kind a b ≡ unless (eqb kind 0) NotXor Done
+gate-under : (line p q kind a b : ℕ) → gateRecord false line p q kind a b ≡ Done → gateRecord true line p q kind a b ≡ unless (linearKind kind) NotLinear Done
 unfolding gateRecord gateAnswer
 gate-under line p q kind a b h =
     let m = past (isMark GT p q) Mark h in
     let k = past (leb kind 6) UnknownKind (m .1) in
     let o = past (operandsFit line (gate kind a b)) Operand (k .1) in
-    rw (m .0, k .0, o .0, allowed-number true kind)
+    rw (m .0, k .0, o .0)
 
--- some gate is not XOR
-abbrev someOther : List Gate → Bool
-someOther qs = anyOf (map (λ (kind : ℕ). not (eqb kind 0)) (map (λ (q : Gate). q .kind) qs))
+-- some gate is nonlinear
+abbrev someNonlinear : List Gate → Bool
+someNonlinear qs = anyOf (map (λ (q : Gate). not (linearKind (q .kind))) qs)
 
 gates-under : (line count : ℕ) (s : List ℕ) → answers (gateHere false) 5 line count s ≡ Done
-    → answers (gateHere true) 5 line count s ≡ unless (not (someOther (records gateIn 5 count s))) NotXor Done
+    → answers (gateHere true) 5 line count s ≡ unless (not (someNonlinear (records gateIn 5 count s))) NotLinear Done
 unfolding answers records
 gates-under line zero s h = refl
 gates-under line (suc count) s h =
     let t = then-done (gateHere false line s) (answers (gateHere false) 5 (suc line) count (drop 5 s)) h in
     let one = gate-under line (getD s 0 0) (getD s 1 0) (getD s 2 0) (getD s 3 0) (getD s 4 0) (t .0) in
     let more = gates-under (suc line) count (drop 5 s) (t .1) in
-    (λ i. andThen (one i) (more i)) ∙ by (eqb (getD s 2 0) 0)
+    (λ i. andThen (one i) (more i)) ∙ by (linearKind (getD s 2 0))
   where
-    by : (u : Bool) → let v = someOther (records gateIn 5 count (drop 5 s)) in andThen (unless u NotXor Done) (unless (not v) NotXor Done) ≡ unless (not (not u || v)) NotXor Done
+    by : (u : Bool) → let v = someNonlinear (records gateIn 5 count (drop 5 s)) in andThen (unless u NotLinear Done) (unless (not v) NotLinear Done) ≡ unless (not (not u || v)) NotLinear Done
     by true = refl
     by false = refl
 
-read-under : (only : Bool) (s : List ℕ) → readAnswer false s ≡ Done → readAnswer only s ≡ unless (not (only && someOther (listingIn s .gates))) NotXor Done
+read-under : (only : Bool) (s : List ℕ) → readAnswer false s ≡ Done → readAnswer only s ≡ unless (not (only && someNonlinear (listingIn s .gates))) NotLinear Done
 unfolding readAnswer bodyAnswer listingIn
 read-under false s h = h
 read-under true s h =
@@ -249,20 +270,20 @@ read-under true s h =
     rw (a .0, b .0, c .0, d .0) ((λ i. andThen (f i) (e .1 i)) ∙ done-last _)
 
 -- and no open refuses them but for its target
-pub opened-law : (s : List ℕ) (c : Listing) → readStored false s ≡ found c → (t : Target) → GivenExactly (answerNo (openAnswer s t)) (openedTable c t)
+pub opened-law : (s : List ℕ) (c : Listing) → readStored false s ≡ found c → (t : Brought) → GivenExactly (answerNo (openAnswer s t)) (openedTable c t)
 unfolding openAnswer
 opened-law s c h t = by (readAnswer false s) refl h
   where
-    other : (only : Bool) (qs : List Gate) → Fails (not (only && someOther qs)) ((only ≡ true) × Some (λ (kind : ℕ). kind ≡ 0 → ⊥) (map (λ (q : Gate). q .kind) qs))
-    other true qs = not-fails (tells-as (λ x. (refl, x)) (λ x. x .1) (tells-some (λ kind. not-tells (fails-where-not (tells-eq kind 0))) (map (λ (q : Gate). q .kind) qs)))
+    other : (only : Bool) (qs : List Gate) → Fails (not (only && someNonlinear qs)) ((only ≡ true) × Some (λ (q : Gate). NonlinearKind (q .kind)) qs)
+    other true qs = not-fails (tells-as (λ x. (refl, x)) (λ x. x .1) (tells-some (λ q. not-tells (linear-law (q .kind))) qs))
     other false qs = record { holds = λ e. absurd (true≢false e); not-else = λ e x. true≢false (sym (x .0)) }
 
     here : readAnswer false s ≡ Done → GivenExactly (answerNo (openAnswer s t)) (openedTable (listingIn s) t)
     here e =
         let d = listingIn s in
-        let target = unless (targetFits (d .inputs) (length (d .outs)) t) BadTarget Done in
-        subst (λ (a : Answer). GivenExactly (answerNo (andThen a target)) (openedTable d t)) (sym (read-under (isMatrix t) s e))
-        (test NotXor Done target (other (isMatrix t) (d .gates)) (chain (λ u. answerNo (unless u BadTarget Done)) (target-law (d .inputs) (length (d .outs)) t) none-left))
+        let target = unless (broughtFits (d .inputs) (length (d .outs)) t) BadTarget Done in
+        subst (λ (a : Answer). GivenExactly (answerNo (andThen a target)) (openedTable d t)) (sym (read-under (t .ofMatrix) s e))
+        (test NotLinear Done target (other (t .ofMatrix) (d .gates)) (chain (λ u. answerNo (unless u BadTarget Done)) (target-law (d .inputs) (length (d .outs)) t) none-left))
 
     by : (a : Answer) → readAnswer false s ≡ a → outcome a (listingIn s) ≡ found c → GivenExactly (answerNo (openAnswer s t)) (openedTable c t)
     by Done e h = let z : listingIn s ≡ c = cc in subst (λ (d : Listing). GivenExactly (answerNo (openAnswer s t)) (openedTable d t)) z (here e)
@@ -303,18 +324,18 @@ point-law (present s) j line =
     chain (λ t. answerNo (unless t NotThere (outAnswer lines line))) (fails-lt j (length (s .circuit .outs)))
     (subst (λ (x : Answer). GivenExactly (answerNo x) (first 6 (lines ≤ line) accepted)) (done-last (outAnswer lines line)) (out-law Done none-left lines line))
 
-entries-law : (c : Listing) (t : Target) (i value : ℕ) → GivenExactly (answerNo (entryAnswer c t i value)) (entryCauses c t i value)
-entries-law c (matrix rows) i value =
-    chain (λ t. answerNo (unless t NotThere (unless (rowFits (c .inputs) value) BadTarget Done))) (fails-lt i (length (c .outs)))
-    (chain (λ t. answerNo (unless t BadTarget Done)) (row-law (c .inputs) value) none-left)
-entries-law c (table entries) i value =
-    chain (λ t. answerNo (unless t NotThere (unless (entryFits (length (c .outs)) value) BadTarget Done))) (fails-lt i (2 ^ c .inputs))
-    (chain (λ t. answerNo (unless t BadTarget Done)) (entry-law (length (c .outs)) value) none-left)
+entries-law : (c : Listing) (t : Target) (i value constant : ℕ) → GivenExactly (answerNo (entryAnswer c t i value constant)) (entryCauses c t i value constant)
+entries-law c (matrix rows) i value constant =
+    chain (λ t. answerNo (unless t NotThere (unless (rowFits (c .inputs) (row value constant)) BadTarget Done))) (fails-lt i (length (c .outs)))
+    (chain (λ t. answerNo (unless t BadTarget Done)) (row-law (c .inputs) (row value constant)) none-left)
+entries-law c (table entries) i value constant =
+    chain (λ t. answerNo (unless t NotThere (unless (entryFits (length (c .outs)) value && eqb constant 0) BadTarget Done))) (fails-lt i (2 ^ c .inputs))
+    (chain (λ t. answerNo (unless t BadTarget Done)) (fails-and (entry-law (length (c .outs)) value) (fails-where-not (tells-eq constant 0))) none-left)
 
-pub change-law : (p : Present) (i value : ℕ) → GivenExactly (answerNo (entryEditAnswer p i value)) (changeTable p i value)
+pub change-law : (p : Present) (i value constant : ℕ) → GivenExactly (answerNo (entryEditAnswer p i value constant)) (changeTable p i value constant)
 unfolding entryEditAnswer
-change-law nothing i value = λ n. (sym, sym)
-change-law (present s) i value = entries-law (s .circuit) (s .target) i value
+change-law nothing i value constant = λ n. (sym, sym)
+change-law (present s) i value constant = entries-law (s .circuit) (s .target) i value constant
 
 pub limits-law : (p : Present) → GivenExactly (answerNo (limitsAnswer p)) (openOnly p)
 limits-law nothing = λ n. (sym, sym)

@@ -1,20 +1,20 @@
 -- The hint: after any calls it is what the definition gives of what is present, refused exactly by its table; and what its lines are, in the circuit's terms.
 use mathlib.Core.Path.{_≡_, refl, sym, ap, ap₂, _∙_, subst}
-use mathlib.Core.Bool.{Bool, true, false, true≢false, cond}
+use mathlib.Core.Bool.{Bool, true, false, cond}
 use mathlib.Core.List.{List, map}
 use Prim.Native.Nat.{ℕ, _-_, _≤_, _<_}
-use native.Mathlib.Decide.{decLt}
+use native.Mathlib.Decide.{ℕ-discrete, decLt}
 use native.Mathlib.Omega.{arith}
 use borrow.Author.Tests.{lt-ltb}
+use lib.Bits.{differ}
 use lib.Dec.{ltb}
 use lib.ListN.{length, getD}
 use Rattle.circuit.specs.declared.Answer.the-variants.{Done}
 use Rattle.circuit.specs.declared.Refusal.{Refusal}
 use Rattle.circuit.specs.declared.Refusal.the-variants.{NotThere, NothingOpen}
-use Rattle.circuit.specs.Gate.{rowOn}
 use Rattle.circuit.specs.Lines.{Listing, gateAt, values}
+use Rattle.circuit.specs.Rows.{Row, noRow, onRow, masksOf, lineRow}
 use Rattle.circuit.specs.Rules.{listingAnswer}
-use Rattle.circuit.specs.Sizes.{mostInputs}
 use Rattle.distance.specs.declared.Answer.{Answer as QueryAnswer}
 use Rattle.distance.specs.declared.Answer.the-variants.{Gates as QueryGates, Never as QueryNever, Refused as QueryRefused}
 use Rattle.distance.specs.declared.Refusal.{Refusal as QueryRefusal}
@@ -23,7 +23,6 @@ use Rattle.distance.specs.Base.{Program}
 use Rattle.distance.specs.Query.{answerOf, foundOf, foundCode, distanceNo}
 use Rattle.distance.proofs.Theorems as distances
 use Rattle.targets.specs.Target.{Target, matrix, table, wants}
-use Rattle.targets.proofs.Fitting.{row-none}
 use Rattle.bench.specs.declared.Bench.{Bench}
 use Rattle.bench.specs.State.{State, Present, nothing, present, Sound, SoundPresent}
 use Rattle.bench.specs.Held.{emptyBench, Stands}
@@ -32,10 +31,9 @@ use Rattle.bench.proofs.RunLaws.{after-calls}
 use Rattle.hint.specs.declared.Answer.{Answer}
 use Rattle.hint.specs.declared.Answer.the-variants.{Gates, Never, Refused}
 use Rattle.hint.specs.declared.Hinted.{Hinted}
-use Rattle.hint.specs.Hint.{sumOf, masksOf, depthsOf, shallow, picked, hinted, noHint, hintAnswer, hintFor, hintUnder, hintOf, hintNo, hintCode, hintNumbers, HintPromise, HintCode}
-use Rattle.hint.proofs.Refusing.{row-fits}
+use Rattle.hint.specs.Hint.{depthsOf, shallow, picked, hinted, noHint, hintAnswer, hintFor, hintUnder, hintOf, hintNo, hintCode, hintNumbers, HintPromise, HintCode}
 use Rattle.hint.proofs.Theorems as hints
-use Rattle.hint.proofs.Theorems.{Reaches, HintRight, told, lineAt}
+use Rattle.hint.proofs.Theorems.{Reaches, HintRight, told, lineAt, summed, offset}
 use Rattle.claims.proofs.Causes.{first, accepted, GivenExactly, hit, miss, none-left}
 use Rattle.claims.proofs.Tables.{NoRow, RowIsZero, hintTable}
 use Rattle.claims.proofs.Following.{distance-law}
@@ -50,31 +48,42 @@ not-refused Never h = refl
 not-refused (Refused w) h = absurd (h w refl)
 
 module _ (s : State) (ok : Sound s) (j D : ℕ) where
-  -- what is left where the row is there: the depth (9)
-  depth-law : (rows : List ℕ) → s .target ≡ matrix rows → j < length rows → Dec (15 < D) → GivenExactly (hintNo (hintFor (s .circuit) (getD rows j 0) D .answer)) (first 9 (15 < D) accepted)
-  depth-law rows e h (yes deep) = subst (λ (n : ℕ). GivenExactly n (first 9 (15 < D) accepted)) (ap hintNo (sym (hints.hint-too-deep s ok rows e j D h deep))) (hit 9 accepted deep)
-  depth-law rows e h (no flat) =
-      subst (λ (n : ℕ). GivenExactly n (first 9 (15 < D) accepted)) (sym (not-refused (hintFor (s .circuit) (getD rows j 0) D .answer) (hints.hint-not-refused s ok rows e j D h (omega arith))))
+  -- the mask of row j, and the number of its hint
+  abbrev mask : List Row → ℕ
+  mask rows = getD rows j noRow .mask
+
+  abbrev number : List Row → ℕ
+  number rows = hintNo (hintFor (s .circuit) (mask rows) D .answer)
+
+  -- what the table says of a row that is there: its mask (8), and then the depth (9)
+  abbrev deepTable : ℕ → Type 0
+  deepTable = first 9 (15 < D) accepted
+
+  abbrev rowTable : List Row → ℕ → Type 0
+  rowTable rows = first 8 (mask rows ≡ 0) deepTable
+
+  depth-law : (rows : List Row) → s .target ≡ matrix rows → j < length rows → (mask rows ≡ 0 → ⊥) → Dec (15 < D) → GivenExactly (number rows) deepTable
+  depth-law rows e h some (yes deep) = subst (λ (n : ℕ). GivenExactly n deepTable) (ap hintNo (sym (hints.hint-too-deep s ok rows e j D h some deep))) (hit 9 accepted deep)
+  depth-law rows e h some (no flat) =
+      subst (λ (n : ℕ). GivenExactly n deepTable) (sym (not-refused (hintFor (s .circuit) (mask rows) D .answer) (hints.hint-not-refused s ok rows e j D h some (omega arith))))
       (miss 9 0 accepted flat none-left)
 
-  -- a row that is there is not 0
-  row-some : (rows : List ℕ) → s .target ≡ matrix rows → j < length rows → getD rows j 0 ≡ 0 → ⊥
-  row-some rows e h z = true≢false (sym (row-none (s .circuit .inputs) (getD rows j 0) z ∙ row-fits s ok rows e j D h))
+  row-law : (rows : List Row) → s .target ≡ matrix rows → j < length rows → Dec (mask rows ≡ 0) → GivenExactly (number rows) (rowTable rows)
+  row-law rows e h (yes z) = subst (λ (n : ℕ). GivenExactly n (rowTable rows)) (ap hintNo (sym (hints.hint-row-zero s ok rows e j D h z))) (hit 8 deepTable z)
+  row-law rows e h (no some) = miss 8 (number rows) deepTable some (depth-law rows e h some (decLt 15 D))
 
-  under : (t : Target) → s .target ≡ t → GivenExactly (hintNo (hintUnder (s .circuit) t j D .answer)) (first 12 (NoRow t j) (first 8 (RowIsZero t j) (first 9 (15 < D) accepted)))
-  under (table entries) e = hit 12 (first 8 ⊥ (first 9 (15 < D) accepted)) tt
+  under : (t : Target) → s .target ≡ t → GivenExactly (hintNo (hintUnder (s .circuit) t j D .answer)) (first 12 (NoRow t j) (first 8 (RowIsZero t j) deepTable))
+  under (table entries) e = hit 12 (first 8 ⊥ deepTable) tt
   under (matrix rows) e = by (decLt j (length rows))
     where
-      by : Dec (j < length rows) → GivenExactly (hintNo (hintUnder (s .circuit) (matrix rows) j D .answer)) (first 12 (length rows ≤ j) (first 8 (getD rows j 0 ≡ 0) (first 9 (15 < D) accepted)))
+      by : Dec (j < length rows) → GivenExactly (hintNo (hintUnder (s .circuit) (matrix rows) j D .answer)) (first 12 (length rows ≤ j) (rowTable rows))
       by (yes h) =
-          let number = hintNo (hintFor (s .circuit) (getD rows j 0) D .answer) in
-          let deep = first 9 (15 < D) accepted in
-          let is = ap (λ (x : Bool). hintNo (cond x (hintFor (s .circuit) (getD rows j 0) D) (noHint NotThere) .answer)) (lt-ltb j (length rows) h) in
-          subst (λ (n : ℕ). GivenExactly n (first 12 (length rows ≤ j) (first 8 (getD rows j 0 ≡ 0) deep))) (sym is)
-          (miss 12 number (first 8 (getD rows j 0 ≡ 0) deep) (λ none. omega arith) (miss 8 number deep (row-some rows e h) (depth-law rows e h (decLt 15 D))))
+          let is = ap (λ (x : Bool). hintNo (cond x (hintFor (s .circuit) (mask rows) D) (noHint NotThere) .answer)) (lt-ltb j (length rows) h) in
+          subst (λ (n : ℕ). GivenExactly n (first 12 (length rows ≤ j) (rowTable rows))) (sym is)
+          (miss 12 (number rows) (rowTable rows) (λ none. omega arith) (row-law rows e h (ℕ-discrete (mask rows) 0)))
       by (no h) =
-          subst (λ (n : ℕ). GivenExactly n (first 12 (length rows ≤ j) (first 8 (getD rows j 0 ≡ 0) (first 9 (15 < D) accepted)))) (sym (hints.number-no-row (s .circuit) rows j D (omega arith)))
-          (hit 12 (first 8 (getD rows j 0 ≡ 0) (first 9 (15 < D) accepted)) (omega arith))
+          subst (λ (n : ℕ). GivenExactly n (first 12 (length rows ≤ j) (rowTable rows))) (sym (hints.number-no-row (s .circuit) rows j D (omega arith)))
+          (hit 12 (rowTable rows) (omega arith))
 
 hint-law : (p : Present) (j D : ℕ) → SoundPresent p → GivenExactly (hintNo (hintOf p j D .answer)) (hintTable p j D)
 hint-law nothing j D ok = λ n. (sym, sym)
@@ -133,7 +142,7 @@ code-law (present s) j D = under (s .target)
     row false t = refl
 
     under : (t : Target) → hintCode (hintUnder (s .circuit) t j D .answer) - 100 ≡ hintNo (hintUnder (s .circuit) t j D .answer)
-    under (matrix rows) = row (ltb j (length rows)) (getD rows j 0)
+    under (matrix rows) = row (ltb j (length rows)) (getD rows j noRow .mask)
     under (table entries) = refl
 
 alone : (p : Present) (j D : ℕ) (w : Refusal) → hintOf p j D .answer ≡ Refused w → hintOf p j D ≡ noHint w
@@ -145,7 +154,7 @@ alone (present s) j D w e = under (s .target) e
     row false t e = same-refusal NotThere w e
 
     under : (t : Target) → hintUnder (s .circuit) t j D .answer ≡ Refused w → hintUnder (s .circuit) t j D ≡ noHint w
-    under (matrix rows) e = row (ltb j (length rows)) (getD rows j 0) e
+    under (matrix rows) e = row (ltb j (length rows)) (getD rows j noRow .mask) e
     under (table entries) e = same-refusal NotThere w e
 
 -- ---- After any calls. `now` is what is present.
@@ -176,29 +185,29 @@ module _ {b : Bench} {calls : List Call} (run : Runs emptyBench calls b) (j D : 
   hint-refused r w h e = let g = hint-given r h in g ∙ alone now j D w (sym (ap (λ (x : Hinted). x .answer) g) ∙ e)
 
   -- Of row j of an open matrix:
-  module _ (s : State) (here : now ≡ present s) (rows : List ℕ) (e : s .target ≡ matrix rows) (there : j < length rows) (r : Hinted) (meets : HintPromise b j D r) where
+  module _ (s : State) (here : now ≡ present s) (rows : List Row) (e : s .target ≡ matrix rows) (there : j < length rows) (r : Hinted) (meets : HintPromise b j D r) where
     standing : Stands b (present s)
     standing = subst (Stands b) here stands
 
-    row-hint : r ≡ hintFor (s .circuit) (getD rows j 0) D
+    row-hint : r ≡ hintFor (s .circuit) (getD rows j noRow .mask) D
     row-hint = hints.hint-is b j D s rows standing e there r meets
 
     -- g gates: the lines beside it are g + 1 lines of the circuit that reach the row within the depth; no fewer do, and of those that are as few these come
-    -- first. Their values sum to what the matrix wants of output j on every input.
+    -- first. Their values sum to what the matrix wants of output j, plus a constant that is the same on every input.
     pub hint-lines : (g : ℕ) → r .answer ≡ Gates g
-        → HintRight (s .circuit) (getD rows j 0) D g (told r)
-        × ((x : ℕ) → sumOf (picked (told r) (values x (s .circuit .inputs) (gateAt (s .circuit)) (length (s .circuit .gates)))) ≡ wants (matrix rows) x j)
+        → HintRight (s .circuit) (getD rows j noRow .mask) D g (told r)
+        × ((x : ℕ) → summed (s .circuit) (told r) x ≡ differ (wants (matrix rows) x j) (offset (s .circuit) (getD rows j noRow) (told r)))
     hint-lines = hints.hint-makes b j D s rows standing e there r meets
 
     -- By themselves they make the row within the depth, by g gates.
-    pub hint-program : (g : ℕ) → r .answer ≡ Gates g → Program (map (lineAt (s .circuit)) (told r)) g (getD rows j 0) D
-    hint-program g a = let right = hint-lines g a .0 in hints.reached-makes (s .circuit) (getD rows j 0) D g (told r) (right .count) (right .reaches)
+    pub hint-program : (g : ℕ) → r .answer ≡ Gates g → Program (map (lineAt (s .circuit)) (told r)) g (getD rows j noRow .mask) D
+    hint-program g a = let right = hint-lines g a .0 in hints.reached-makes (s .circuit) (getD rows j noRow .mask) D g (told r) (right .count) (right .reaches)
 
     -- None: no lines reach it.
-    pub hint-none : r .answer ≡ Never → (ys : List ℕ) → Reaches (s .circuit) (getD rows j 0) D ys → ⊥
-    hint-none never = hints.hint-never (s .circuit) (getD rows j 0) D (sym (ap (λ (h : Hinted). h .answer) row-hint) ∙ never)
+    pub hint-none : r .answer ≡ Never → (ys : List ℕ) → Reaches (s .circuit) (getD rows j noRow .mask) D ys → ⊥
+    hint-none never = hints.hint-never (s .circuit) (getD rows j noRow .mask) D (sym (ap (λ (h : Hinted). h .answer) row-hint) ∙ never)
 
--- The masks that a hint counts by are what the lines compute: under a matrix a line's value on an input is the row of its mask on that input.
-pub masks-compute : (c : Listing) → listingAnswer true c ≡ Done
-    → (x i : ℕ) → getD (values x (c .inputs) (gateAt c) (length (c .gates))) i 0 ≡ rowOn mostInputs (getD (masksOf c) i 0) x
-masks-compute = hints.masks-compute
+-- Under a matrix every line is linear: its value on an input value is the row of its mask on it, plus its constant, which is its value on 0.
+pub lines-linear : (c : Listing) → listingAnswer true c ≡ Done
+    → (x i : ℕ) → getD (values x (c .inputs) (gateAt c) (length (c .gates))) i 0 ≡ onRow (lineRow c i) x
+lines-linear = hints.lines-linear

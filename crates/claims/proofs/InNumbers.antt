@@ -7,7 +7,7 @@ use Rattle.circuit.specs.declared.Answer.{Answer}
 use Rattle.circuit.specs.declared.Answer.the-variants.{Done, Refused}
 use Rattle.circuit.specs.Rules.{answerNo}
 use Rattle.sweep.specs.Sweep.{swept}
-use Rattle.targets.specs.Target.{Target}
+use Rattle.targets.specs.Target.{Brought}
 use Rattle.bench.specs.declared.Bench.{Bench}
 use Rattle.bench.specs.declared.Edit.{Edit}
 use Rattle.bench.specs.State.{Limits, State, Present, nothing, present}
@@ -32,7 +32,7 @@ pub a-run : {b : Bench} {calls : List Call} → MixedRuns emptyBench calls b →
 a-run = mixed-runs nothing empty-stands
 
 -- It may begin on any bench, whatever that holds, with an accepted opening.
-pub a-run-from-any-bench : {b last : Bench} {bytes : List ℕ} {t : Target} {l : Limits} {calls : List Call} → openAnswer bytes t ≡ Done
+pub a-run-from-any-bench : {b last : Bench} {bytes : List ℕ} {t : Brought} {l : Limits} {calls : List Call} → openAnswer bytes t ≡ Done
     → MixedRuns b (opening bytes t l ∷ calls) last → Runs emptyBench (opening bytes t l ∷ calls) last
 a-run-from-any-bench = mixed-anywhere
 
@@ -59,7 +59,7 @@ module _ {b : Bench} {calls : List Call} (run : Runs emptyBench calls b) where
   refused-nothing {next} (StepGiven.opened {bytes} {t} {l} number small promise) some = first.open-numbered b bytes t l next number promise .1 some
   refused-nothing {next} (StepGiven.replaced {k} {kind} {x} {y} edit promise) some = first.replace-numbered run k kind x y edit next promise .1 some
   refused-nothing {next} (StepGiven.pointed {j} {line} edit promise) some = first.point-numbered run j line edit next promise .1 some
-  refused-nothing {next} (StepGiven.changed {i} {value} edit promise) some = first.change-numbered run i value edit next promise .1 some
+  refused-nothing {next} (StepGiven.changed {i} {value} {constant} edit promise) some = first.change-numbered run i value constant edit next promise .1 some
   refused-nothing {next} (StepGiven.limited {l} edit small promise) some = first.limits-numbered run l edit next promise .1 some
   refused-nothing {next} (StepGiven.swept edit promise) some = first.sweep-numbered run edit next promise .1 some
   refused-nothing {next} (StepGiven.appended {kind} {x} {y} edit promise) some = first.append-numbered run kind x y edit next promise .1 some
@@ -130,11 +130,11 @@ module _ {b : Bench} {calls : List Call} (run : Runs emptyBench calls b) where
         let N : Present → Present = λ p. afterOutput p j line in
         none-listed X N edit next h (third.pointing-reworks-none run s here j line (X (present s)) next (by-value X N edit next h))
 
-    pub changing-reworks-none : (i value : ℕ) (edit : EditNumbers) (next : Bench) → EntryCode b i value edit next → NoneReworked b (edit .count) next
-    changing-reworks-none i value edit next h =
-        let X : Present → Edit = λ p. noRework (entryEditAnswer p i value) in
-        let N : Present → Present = λ p. afterEntry p i value in
-        none-listed X N edit next h (third.changing-reworks-none run s here i value (X (present s)) next (by-value X N edit next h))
+    pub changing-reworks-none : (i value constant : ℕ) (edit : EditNumbers) (next : Bench) → EntryCode b i value constant edit next → NoneReworked b (edit .count) next
+    changing-reworks-none i value constant edit next h =
+        let X : Present → Edit = λ p. noRework (entryEditAnswer p i value constant) in
+        let N : Present → Present = λ p. afterEntry p i value constant in
+        none-listed X N edit next h (third.changing-reworks-none run s here i value constant (X (present s)) next (by-value X N edit next h))
 
     pub limiting-reworks-none : (l : Limits) (edit : EditNumbers) (next : Bench) → LimitsCode b l edit next → NoneReworked b (edit .count) next
     limiting-reworks-none l edit next h =

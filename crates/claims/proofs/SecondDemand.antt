@@ -1,25 +1,32 @@
 -- Demand 2: a circuit passes exactly when it gives the target's outputs on all inputs and keeps its limits; distances are truly the fewest XORs within the
 -- depth; the builder follows the rule, and refuses a sound matrix as too shallow exactly when no XOR program of that depth computes it.
+-- From request 6 on a matrix reads: matrix with constants where a circuit is checked; rows without constants where one is built, and a sound matrix is then
+-- one that no refusal ahead of 10 stops.
 use mathlib.Core.Path.{_≡_, refl, sym, ap, ap₂, _∙_, subst}
 use mathlib.Core.Bool.{Bool, true, false, cond}
-use mathlib.Core.Logic.{_↔_, inl, inr, ⊎-elim}
+use mathlib.Core.Logic.{_↔_, _⊎_, inl, inr, ⊎-elim}
 use mathlib.Core.List.{List, [], _∷_, _++_, map}
 use Prim.Native.Nat.{ℕ, zero, suc, _+_, _-_, _%_, _^_, _≤_, _<_, min}
-use native.Mathlib.Nat.{eq-or-lt-of-le}
+use native.Mathlib.Nat.{add-zero, eq-or-lt-of-le}
 use native.Mathlib.Omega.{arith}
 use lib.Bits.{differ}
-use lib.Dec.{leb}
-use lib.ListN.{length, getD, take, drop, replicate}
+use borrow.Author.Tests.{ltb-true}
+use lib.Dec.{leb, ltb, eqb}
+use lib.ListN.{length, getD, take, drop, replicate, length-map, List·getD-map}
 use lib.Pow.{pow-mono}
 use lib.Seq.{take-at, drop-at, take-append-seam}
 use Rattle.circuit.specs.declared.Refusal.the-variants.{TooShallow, NoRoom}
 use Rattle.circuit.specs.declared.Answer.{Answer}
 use Rattle.circuit.specs.declared.Answer.the-variants.{Done, Refused}
 use Rattle.circuit.specs.Gate.{bit, rowOn}
-use Rattle.circuit.specs.Lines.{Listing, gateAt, andStep, andDepths, depthOf, andDepthOf, outputOn, anyOf, lines, listing}
+use Rattle.circuit.specs.Lines.{Listing, gateAt, values, andStep, andDepths, depthOf, andDepthOf, outputOn, anyOf, lines, listing}
+use Rattle.circuit.specs.Rows.{Row, row, noRow, onRow, masksOf, lineRow}
 use Rattle.circuit.specs.Rules.{shaped}
 use Rattle.circuit.proofs.GateLaws.{bit-lt, bit-and, bit-above, differ-sum}
 use Rattle.circuit.proofs.LineLaws.{greatest-read}
+use Rattle.circuit.proofs.RowLaws.{line-linear, values-small}
+use Rattle.circuit.proofs.RuleLaws.{gate-fits, circuit-fits}
+use Rattle.circuit.proofs.Shapes.{both}
 use Rattle.stored.specs.declared.Writing.{Writing}
 use Rattle.stored.specs.declared.Writing.the-variants.{Written, NotWritten}
 use Rattle.stored.specs.Stored.{stored}
@@ -36,7 +43,7 @@ use Rattle.distance.specs.Base.{Line, none, Xor, baseOf, inputs, arriving, run,
 use Rattle.distance.specs.Distance.{gates, never, distance, numbers, firstSet, FirstSmallest}
 use Rattle.distance.specs.Query.{lookAt, answered, answerOf, linesOf, foundOf, distanceNo, queryRefusalNo, whereSound}
 use Rattle.distance.proofs.Theorems as distances
-use Rattle.builder.specs.Rule.{Row, firstPair, rowsOf, lowest, sum, taken, xorGate, greedyCircuit}
+use Rattle.builder.specs.Rule.{Row as BuilderRow, firstPair, rowsOf, lowest, sum, taken, xorGate, greedyCircuit}
 use Rattle.builder.specs.Call.{within, built, badRow, refusal, buildAnswer, Builds}
 use Rattle.builder.specs.Late.{lateBuilt, lateRefusal, lateAnswer, BuildsLate}
 use Rattle.builder.specs.Matrix.{Computes, ComputesLate, depthFrom}
@@ -46,39 +53,54 @@ use Rattle.builder.proofs.Begin.{arriving-length}
 use Rattle.builder.proofs.Values.{lines-whole}
 use Rattle.builder.proofs.AsLate.{atOnce, alike}
 use Rattle.builder.proofs.Theorems as building
-use Rattle.targets.specs.Target.{matrix, table, wants}
+use Rattle.targets.specs.Target.{matrix, table, isMatrix, wants, rowFits, targetFits, Brought, brought, asBrought}
+use Rattle.targets.proofs.Fitting.{all-there}
 use Rattle.bench.specs.declared.Bench.{Bench}
 use Rattle.bench.specs.declared.Place.{Place}
 use Rattle.bench.specs.declared.Verdict.the-variants.{Wrong, Pass}
 use Rattle.bench.specs.declared.Reported.{Reported}
 use Rattle.bench.specs.declared.Reported.the-variants.{Given}
-use Rattle.bench.specs.State.{Limits, State, state, present, reportOf, Sound, LimitsFit}
+use Rattle.bench.specs.State.{Limits, State, state, present, reportOf, Sound, SoundPresent, LimitsFit}
 use Rattle.bench.specs.Held.{emptyBench}
 use Rattle.bench.specs.Calls.{openAnswer, reported, ReportPromise}
 use Rattle.bench.specs.Run.{Call, presentAfter, Runs}
 use Rattle.bench.specs.Run.Call.{opening}
-use Rattle.bench.proofs.RunLaws.{report-after-calls, opens, opens-as}
+use Rattle.bench.proofs.RunLaws.{after-calls, report-after-calls, opens, opens-as}
 use Rattle.report.proofs.PassLaws.{Right, FirstWrong, pass-right, right-pass, wrong-first, first-wrong}
 use Rattle.claims.proofs.Causes.{Some, Tells, tells-some, passes, silent}
-use Rattle.claims.proofs.Tables.{OutOfRange, BadRow, BrokenTarget, LateRow}
-use Rattle.claims.proofs.Following.{range-law, target-law, row-tells, heavy-tells, deep-tells, late-tells}
+use Rattle.claims.proofs.Tables.{OutOfRange, BadRow, BrokenRow, LateRow}
+use Rattle.claims.proofs.Following.{range-law, rows-law, row-tells, heavy-tells, deep-tells, late-tells}
 
--- ---- What a matrix asks of an output: the inputs that the row has, summed modulo 2.
+-- ---- What a matrix with constants asks of an output: the inputs that the row's mask has are counted, and the constant is added, modulo 2.
 
--- how many of the lowest k inputs are in the row and are 1 on input value x
+-- how many of the lowest k inputs are in the mask t and are 1 on input value x
 abbrev pub onesIn : ℕ → ℕ → ℕ → ℕ
 onesIn zero t x = 0
 onesIn (suc k) t x = onesIn k t x + min (bit k t) (bit k x)
 
+-- a bit more
+one-more : (k b : ℕ) → b < 2 → differ (k % 2) b ≡ (k + b) % 2
+one-more k b h = differ-sum (k % 2) b (omega arith) h ∙ omega arith
+
 row-sum : (k t x : ℕ) → rowOn k t x ≡ onesIn k t x % 2
 row-sum zero t x = refl
-row-sum (suc k) t x =
-    ap₂ differ (row-sum k t x) (bit-and k t x)
-    ∙ differ-sum (onesIn k t x % 2) (min (bit k t) (bit k x)) (omega arith) (omega (arith, bit-lt k t))
-    ∙ omega arith
+row-sum (suc k) t x = ap₂ differ (row-sum k t x) (bit-and k t x) ∙ one-more (onesIn k t x) (min (bit k t) (bit k x)) (omega (arith, bit-lt k t))
 
-pub matrix-wants : (rows : List ℕ) (x j : ℕ) → wants (matrix rows) x j ≡ onesIn 8 (getD rows j 0) x % 2
-matrix-wants rows x j = row-sum 8 (getD rows j 0) x
+-- a row on an input value
+pub row-on : (r : Row) (x : ℕ) → r .constant < 2 → onRow r x ≡ (onesIn 32 (r .mask) x + r .constant) % 2
+unfolding onRow
+row-on r x h = ap (λ (d : ℕ). differ d (r .constant)) (row-sum 32 (r .mask) x) ∙ one-more (onesIn 32 (r .mask) x) (r .constant) h
+
+pub matrix-wants : (rows : List Row) (x j : ℕ) → getD rows j noRow .constant < 2
+    → wants (matrix rows) x j ≡ (onesIn 32 (getD rows j noRow .mask) x + getD rows j noRow .constant) % 2
+matrix-wants rows x j = row-on (getD rows j noRow) x
+
+-- In a matrix that keeps its rule each constant is 0 or 1.
+pub constants-fit : (n m : ℕ) (rows : List Row) → targetFits n m (matrix rows) ≡ true → (j : ℕ) → j < length rows → getD rows j noRow .constant < 2
+unfolding targetFits rowFits
+constants-fit n m rows f j h =
+    let r = getD rows j noRow in
+    ltb-true (r .constant) 2 (both (ltb (r .mask) (2 ^ n)) (all-there noRow (rowFits n) rows j (both (eqb (length rows) m) f .1) h) .1)
 
 -- What a table asks: bit j of the entry.
 pub table-wants : (entries : List ℕ) (x j : ℕ) → wants (table entries) x j ≡ bit j (getD entries x 0)
@@ -99,6 +121,31 @@ module _ (s : State) where
   -- That is the report which is given, after any calls, where this is present.
   pub report-given : {b : Bench} {calls : List Call} → Runs emptyBench calls b → presentAfter calls ≡ present s → (r : Reported) → ReportPromise b r → r ≡ Given (reportOf s)
   report-given run e r h = report-after-calls run h ∙ ap reported e
+
+-- ---- Under a matrix every line is linear.
+
+-- the value of line i of a circuit on input value x
+abbrev pub lineOn : Listing → ℕ → ℕ → ℕ
+lineOn c x i = getD (values x (c .inputs) (gateAt c) (length (c .gates))) i 0
+
+-- In a state that keeps every rule
+module _ (s : State) (ok : Sound s) (only : isMatrix (s .target) ≡ true) where
+  -- a line's value on every input is its row on it: its mask is the one that a hint counts by (`masksOf`), its constant the value on input value 0.
+  pub lines-linear : (x i : ℕ) → lineOn (s .circuit) x i ≡ onRow (lineRow (s .circuit) i) x
+  lines-linear =
+      let c = s .circuit in
+      let f = circuit-fits (isMatrix (s .target)) c (ok .circuit) in
+      line-linear c (omega (arith, f .shape .n-most)) (λ k h. gate-fits (isMatrix (s .target)) (c .inputs + k) (gateAt c k) (f .gates k h) .linear only)
+
+  -- In numbers: it is the sum modulo 2 of the inputs that the mask has, plus the constant.
+  pub lines-summed : (x i : ℕ) → lineOn (s .circuit) x i ≡ (onesIn 32 (getD (masksOf (s .circuit)) i 0) x + lineOn (s .circuit) 0 i) % 2
+  lines-summed x i =
+      let c = s .circuit in
+      lines-linear x i ∙ row-on (lineRow c i) x (values-small 0 (c .inputs) (gateAt c) (length (c .gates)) i)
+
+-- What is present after any calls is such a state.
+pub present-sound : {b : Bench} {calls : List Call} → Runs emptyBench calls b → (s : State) → presentAfter calls ≡ present s → Sound s
+present-sound run s e = subst SoundPresent e (after-calls run .sound)
 
 -- ---- Distances are truly the fewest XORs within the depth.
 
@@ -170,7 +217,7 @@ module _ (n : ℕ) (ms ds : List ℕ) (t D : ℕ) (r : Found) (meets : r ≡ fou
   query-no-lines e = beside ∙ distances.query-no-lines n ms ds t D looks (sym answers ∙ e)
 
 -- ---- The first pair that the rule takes for a row one gate away is the query's set of two lines: the same numbers.
-pub first-pair-is-set : (ls : List Line) (r : Row) → distance 8 ls (r .mask) (r .limit) ≡ gates 1
+pub first-pair-is-set : (ls : List Line) (r : BuilderRow) → distance 8 ls (r .mask) (r .limit) ≡ gates 1
     → numbers 0 ls (firstSet 2 (r .mask) (2 ^ (r .limit)) ls) ≡ firstPair ls r .a ∷ firstPair ls r .b ∷ []
 first-pair-is-set = building.first-pair-is-set
 
@@ -419,6 +466,32 @@ module _ (n : ℕ) (ts : List ℕ) (D : ℕ) (range : OutOfRange n (length ts) 0
 
 -- ---- The builder and the bench agree: what was built, opened with its matrix, passes wherever the limits allow its gates and depth.
 
+-- Rows without constants, as the builder takes them, are rows whose constant is 0;
+abbrev pub asRows : List ℕ → List Row
+asRows ts = map (λ (t : ℕ). row t 0) ts
+
+-- they are brought to an open as the masks, and then a 0 for each.
+abbrev pub broughtRows : List ℕ → Brought
+broughtRows ts = brought true (ts ++ replicate (length ts) 0)
+
+rows-brought : (ts : List ℕ) → asBrought (matrix (asRows ts)) ≡ broughtRows ts
+rows-brought ts = ap (brought true) (ap₂ _++_ (masks ts) (constants ts))
+  where
+    masks : (ts : List ℕ) → map (λ (r : Row). r .mask) (asRows ts) ≡ ts
+    masks [] = refl
+    masks (t ∷ ts) = ap (λ (l : List ℕ). t ∷ l) (masks ts)
+
+    constants : (ts : List ℕ) → map (λ (r : Row). r .constant) (asRows ts) ≡ replicate (length ts) 0
+    constants [] = refl
+    constants (t ∷ ts) = ap (λ (l : List ℕ). 0 ∷ l) (constants ts)
+
+-- a row without a constant that is no bad one for the builder is none for a target
+broken-bad : (n : ℕ) (ts : List ℕ) → Some (BrokenRow n) (asRows ts) → Some (BadRow n) ts
+broken-bad n [] s = s
+broken-bad n (t ∷ ts) (inl (inl h)) = inl (inr h)
+broken-bad n (t ∷ ts) (inl (inr h)) = absurd (omega arith)
+broken-bad n (t ∷ ts) (inr s) = inr (broken-bad n ts s)
+
 ones-stop : (k n t x : ℕ) → n ≤ k → t < 2 ^ n → onesIn k t x ≡ onesIn n t x
 ones-stop zero n t x h b = ap (λ (j : ℕ). onesIn j t x) (let z : 0 ≡ n = omega arith in z)
 ones-stop (suc k) n t x h b =
@@ -429,7 +502,7 @@ ones-stop (suc k) n t x h b =
 
 module _ (n : ℕ) (ar ts ds : List ℕ) (ok : lateRefusal n ar ts ds ≡ Done) (l : Limits) (small : LimitsFit l) where
   abbrev late-opened : State
-  late-opened = state (lateBuilt n ar ts ds) (matrix ts) l
+  late-opened = state (lateBuilt n ar ts ds) (matrix (asRows ts)) l
 
   ahead-of : Ahead n ar ts ds
   ahead-of = accepted n ar ts ds ok .ahead
@@ -441,31 +514,36 @@ module _ (n : ℕ) (ar ts ds : List ℕ) (ok : lateRefusal n ar ts ds ≡ Done) 
   sound-opened =
       record {
         circuit = building.late-sound n ar ts ds ok;
-        target = passes (target-law (lateBuilt n ar ts ds .inputs) (length (lateBuilt n ar ts ds .outs)) (matrix ts)) unbroken;
+        target = passes (rows-law (lateBuilt n ar ts ds .inputs) (length (lateBuilt n ar ts ds .outs)) (asRows ts)) unbroken;
         limits = small;
       }
     where
-      unbroken : BrokenTarget (lateBuilt n ar ts ds .inputs) (length (lateBuilt n ar ts ds .outs)) (matrix ts) → ⊥
-      unbroken (inl e) = e (sym outs-are)
-      unbroken (inr s) = tells-some (row-tells n) ts .not-else (ahead-of .rows) (subst (λ (k : ℕ). Some (BadRow k) ts) (late-inputs n ar ts ds) s)
+      unbroken : (length (asRows ts) ≡ length (lateBuilt n ar ts ds .outs) → ⊥) ⊎ Some (BrokenRow (lateBuilt n ar ts ds .inputs)) (asRows ts) → ⊥
+      unbroken (inl e) = e (length-map ts (λ (t : ℕ). row t 0) ∙ sym outs-are)
+      unbroken (inr s) =
+          tells-some (row-tells n) ts .not-else (ahead-of .rows) (broken-bad n ts (subst (λ (k : ℕ). Some (BrokenRow k) (asRows ts)) (late-inputs n ar ts ds) s))
 
-  pub late-opens : openAnswer (stored (lateBuilt n ar ts ds)) (matrix ts) ≡ Done
-  late-opens = opens late-opened sound-opened
+  pub late-opens : openAnswer (stored (lateBuilt n ar ts ds)) (broughtRows ts) ≡ Done
+  late-opens = ap (openAnswer (stored (lateBuilt n ar ts ds))) (sym (rows-brought ts)) ∙ opens late-opened sound-opened
 
   pub late-passes : length (lateBuilt n ar ts ds .gates) ≤ l .gates → depthOf (lateBuilt n ar ts ds) ≤ l .depth
-      → {b : Bench} → Runs emptyBench (opening (stored (lateBuilt n ar ts ds)) (matrix ts) l ∷ []) b → (r : Reported) → ReportPromise b r
+      → {b : Bench} → Runs emptyBench (opening (stored (lateBuilt n ar ts ds)) (broughtRows ts) l ∷ []) b → (r : Reported) → ReportPromise b r
       → (r ≡ Given (reportOf late-opened)) × (reportOf late-opened .verdict ≡ Pass)
-  late-passes g d run r h = (report-given late-opened run (opens-as late-opened sound-opened) r h, passes-exactly late-opened .1 right)
+  late-passes g d run r h = (report-given late-opened run now r h, passes-exactly late-opened .1 right)
     where
+      now : presentAfter (opening (stored (lateBuilt n ar ts ds)) (broughtRows ts) l ∷ []) ≡ present late-opened
+      now = ap (λ (t : Brought). presentAfter (opening (stored (lateBuilt n ar ts ds)) t l ∷ [])) (sym (rows-brought ts)) ∙ opens-as late-opened sound-opened
+
       right : Right late-opened
       right =
           let f = looking n ar ts ds ahead-of .fit in
           let b = late-right n ar ts ds ok in
           record {
             equal = λ x j hx hj.
+                let t = getD ts j 0 in
                 b .computes x j (subst (λ (m : ℕ). j < m) outs-are hj)
-                ∙ ap (λ (k : ℕ). k % 2) (sym (ones-stop 8 n (getD ts j 0) x (f .inputs) (f .below j)))
-                ∙ sym (row-sum 8 (getD ts j 0) x);
+                ∙ ap (λ (k : ℕ). k % 2) (sym (add-zero _ ∙ ones-stop 32 n t x (omega (arith, f .inputs)) (f .below j)))
+                ∙ sym (ap (λ (r : Row). onRow r x) (List·getD-map (λ (t : ℕ). row t 0) ts j 0) ∙ row-on (row t 0) x (omega arith));
             gates = g;
             depth = d;
             andDepth = omega (arith, b .linear);
@@ -473,21 +551,21 @@ module _ (n : ℕ) (ar ts ds : List ℕ) (ok : lateRefusal n ar ts ds ≡ Done) 
 
 module _ (n : ℕ) (ts : List ℕ) (D : ℕ) (ok : refusal n ts D ≡ Done) (l : Limits) (small : LimitsFit l) where
   abbrev opened : State
-  opened = state (built n ts D) (matrix ts) l
+  opened = state (built n ts D) (matrix (asRows ts)) l
 
   taken-late : lateRefusal n (atOnce n) ts (alike D ts) ≡ Done
   taken-late = sym (building.as-late n ts D .0) ∙ ok
 
-  pub built-opens : openAnswer (stored (built n ts D)) (matrix ts) ≡ Done
-  built-opens = ap (λ (c : Listing). openAnswer (stored c) (matrix ts)) (building.as-late n ts D .1) ∙ late-opens n (atOnce n) ts (alike D ts) taken-late l small
+  pub built-opens : openAnswer (stored (built n ts D)) (broughtRows ts) ≡ Done
+  built-opens = ap (λ (c : Listing). openAnswer (stored c) (broughtRows ts)) (building.as-late n ts D .1) ∙ late-opens n (atOnce n) ts (alike D ts) taken-late l small
 
   pub built-passes : length (built n ts D .gates) ≤ l .gates → depthOf (built n ts D) ≤ l .depth
-      → {b : Bench} → Runs emptyBench (opening (stored (built n ts D)) (matrix ts) l ∷ []) b → (r : Reported) → ReportPromise b r
+      → {b : Bench} → Runs emptyBench (opening (stored (built n ts D)) (broughtRows ts) l ∷ []) b → (r : Reported) → ReportPromise b r
       → (r ≡ Given (reportOf opened)) × (reportOf opened .verdict ≡ Pass)
   built-passes g d {b} run r h =
       let e = building.as-late n ts D .1 in
-      subst (λ (c : Listing). (r ≡ Given (reportOf (state c (matrix ts) l))) × (reportOf (state c (matrix ts) l) .verdict ≡ Pass)) (sym e)
+      subst (λ (c : Listing). (r ≡ Given (reportOf (state c (matrix (asRows ts)) l))) × (reportOf (state c (matrix (asRows ts)) l) .verdict ≡ Pass)) (sym e)
       (late-passes n (atOnce n) ts (alike D ts) taken-late l small
       (subst (λ (c : Listing). length (c .gates) ≤ l .gates) e g)
       (subst (λ (c : Listing). depthOf c ≤ l .depth) e d)
-      (subst (λ (c : Listing). Runs emptyBench (opening (stored c) (matrix ts) l ∷ []) b) e run) r h)
+      (subst (λ (c : Listing). Runs emptyBench (opening (stored c) (broughtRows ts) l ∷ []) b) e run) r h)

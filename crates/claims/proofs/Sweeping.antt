@@ -25,7 +25,7 @@ use Rattle.sweep.specs.Sweep.{used, otherWay, sameGate, to, sweepOf, swept}
 use Rattle.sweep.proofs.SameLaws.{Alike, same-alike}
 use Rattle.sweep.proofs.Theorems as sweeps
 use Rattle.sweep.proofs.Reaching.{used-exactly}
-use Rattle.targets.specs.Target.{isMatrix, wants}
+use Rattle.targets.specs.Target.{isMatrix, wants, asBrought}
 use Rattle.bench.specs.declared.Bench.{Bench}
 use Rattle.bench.specs.declared.Edit.{Edit}
 use Rattle.bench.specs.declared.Verdict.{Verdict}
@@ -191,7 +191,7 @@ module _ (s : State) (ok : Sound s) where
   kept-in-order = sweeps.swept-order only c (ok .circuit)
 
   -- ---- A swept circuit is sound: no open refuses it.
-  pub swept-opens : openAnswer (stored (swept c)) (s .target) ≡ Done
+  pub swept-opens : openAnswer (stored (swept c)) (asBrought (s .target)) ≡ Done
   swept-opens = opens cleared (sound-sweep s ok)
 
 -- ---- "The freed gates can be added again at the end by a new append call": up to 248,

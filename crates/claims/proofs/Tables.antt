@@ -2,10 +2,11 @@
 use mathlib.Core.Path.{_≡_}
 use mathlib.Core.Bool.{Bool, true, false}
 use mathlib.Core.Logic.{_⊎_}
-use mathlib.Core.List.{List, map}
+use mathlib.Core.List.{List}
 use Prim.Native.Nat.{ℕ, zero, suc, _+_, _*_, _^_, _≤_, _<_}
 use lib.ListN.{length, getD}
 use Rattle.circuit.specs.Lines.{Gate, Listing}
+use Rattle.circuit.specs.Rows.{Row, row, noRow}
 use Rattle.circuit.specs.Rules.{answerNo}
 use Rattle.stored.specs.Stored.{stored}
 use Rattle.stored.specs.Writing.{writingNo}
@@ -17,7 +18,7 @@ use Rattle.grammar.specs.File.{Assignment, File, Place}
 use Rattle.known.specs.Known.{Fault, NameFault}
 use Rattle.meaning.specs.Meaning.{operatorsIn, inputsIn, setsOutput}
 use Rattle.drawing.specs.Drawing.{drawnBytes}
-use Rattle.targets.specs.Target.{Target, matrix, table, isMatrix}
+use Rattle.targets.specs.Target.{Target, matrix, table, isMatrix, rowsIn, Brought}
 use Rattle.bench.specs.State.{State, Present, nothing, present}
 use Rattle.bench.specs.Calls.{openAnswer, gateEditAnswer, outputEditAnswer, entryEditAnswer, limitsAnswer, sweepEdit, appendAnswer, reported, storeAnswer}
 use Rattle.bench.specs.Run.{Call}
@@ -39,17 +40,30 @@ WrongMark s at p q = (getD s at 0 ≡ p → ⊥) ⊎ (getD s (at + 1) 0 ≡ q �
 abbrev pub BadOperand : ℕ → ℕ → ℕ → ℕ → Type 0
 BadOperand line kind a b = (line ≤ a) ⊎ ((kind ≡ 6) × (b ≡ 0 → ⊥)) ⊎ ((kind ≡ 6 → ⊥) × (line ≤ b))
 
--- 4, 5, and 7: gate other than XOR under a matrix
+-- a nonlinear kind: AND, NAND, OR and NOR
+abbrev pub NonlinearKind : ℕ → Type 0
+NonlinearKind kind = (2 ≤ kind) × (kind ≤ 5)
+
+-- 4, 5, and 7: a nonlinear gate under a matrix
 abbrev pub gateTable : Bool → ℕ → ℕ → ℕ → ℕ → (ℕ → Type 0) → ℕ → Type 0
-gateTable only line kind a b rest = first 4 (6 < kind) (first 5 (BadOperand line kind a b) (first 7 ((only ≡ true) × (kind ≡ 0 → ⊥)) rest))
+gateTable only line kind a b rest = first 4 (6 < kind) (first 5 (BadOperand line kind a b) (first 7 ((only ≡ true) × NonlinearKind kind) rest))
 
--- 8: a row is 0 or reaches 2^n; an entry reaches 2^m; target length
+-- 8, of a row for the builder, which is a mask alone: it is 0 or reaches 2^n
 abbrev pub BadRow : ℕ → ℕ → Type 0
-BadRow n row = (row ≡ 0) ⊎ (2 ^ n ≤ row)
+BadRow n mask = (mask ≡ 0) ⊎ (2 ^ n ≤ mask)
 
-abbrev pub BrokenTarget : ℕ → ℕ → Target → Type 0
-BrokenTarget n m (matrix rows) = (length rows ≡ m → ⊥) ⊎ Some (BadRow n) rows
-BrokenTarget n m (table entries) = (8 < m) ⊎ (length entries ≡ 2 ^ n → ⊥) ⊎ Some (λ (e : ℕ). 2 ^ m ≤ e) entries
+-- 8, of a row of a target: its mask reaches 2^n, or its constant is neither 0 nor 1
+abbrev pub BrokenRow : ℕ → Row → Type 0
+BrokenRow n r = (2 ^ n ≤ r .mask) ⊎ (1 < r .constant)
+
+-- 8, of the bytes of a matrix: not m masks and then m constants, or a broken row; of a table: m over 8, not 2^n entries, or one that reaches 2^m
+abbrev pub BrokenBytes : Bool → ℕ → ℕ → List ℕ → Type 0
+BrokenBytes true n m bytes = (length bytes ≡ m + m → ⊥) ⊎ Some (BrokenRow n) (rowsIn n m bytes)
+BrokenBytes false n m bytes = (8 < m) ⊎ (length bytes ≡ 2 ^ n → ⊥) ⊎ Some (λ (e : ℕ). 2 ^ m ≤ e) bytes
+
+-- the same of a target as it is brought
+abbrev pub BrokenTarget : ℕ → ℕ → Brought → Type 0
+BrokenTarget n m t = BrokenBytes (t .ofMatrix) n m (t .bytes)
 
 -- records of one size, the first of them number k at a place, one after the other
 abbrev pub recordsTable : (ℕ → ℕ → (ℕ → Type 0) → ℕ → Type 0) → ℕ → ℕ → ℕ → ℕ → (ℕ → Type 0) → ℕ → Type 0
@@ -75,16 +89,16 @@ readTable only s rest =
     first 2 (length s < 5) (first 3 (WrongMark s 0 83 72) (bodyTable only s (getD s 2 0) (getD s 3 0) (getD s 4 0) rest))
 
 -- open: as reading, last the target (8)
-abbrev pub openTable : List ℕ → Target → ℕ → Type 0
-openTable s t = readTable (isMatrix t) s (first 8 (BrokenTarget (getD s 2 0) (getD s 3 0) t) accepted)
+abbrev pub openTable : List ℕ → Brought → ℕ → Type 0
+openTable s t = readTable (t .ofMatrix) s (first 8 (BrokenTarget (getD s 2 0) (getD s 3 0) t) accepted)
 
--- a gate of the circuit is not XOR
-abbrev pub OtherThanXor : Listing → Type 0
-OtherThanXor c = Some (λ (kind : ℕ). kind ≡ 0 → ⊥) (map (λ (q : Gate). q .kind) (c .gates))
+-- a gate of the circuit is nonlinear
+abbrev pub SomeNonlinear : Listing → Type 0
+SomeNonlinear c = Some (λ (q : Gate). NonlinearKind (q .kind)) (c .gates)
 
--- open, of bytes that read as the circuit c: under a matrix a gate other than XOR (7), last the target (8)
-abbrev pub openedTable : Listing → Target → ℕ → Type 0
-openedTable c t = first 7 ((isMatrix t ≡ true) × OtherThanXor c) (first 8 (BrokenTarget (c .inputs) (length (c .outs)) t) accepted)
+-- open, of bytes that read as the circuit c: under a matrix a nonlinear gate (7), last the target (8)
+abbrev pub openedTable : Listing → Brought → ℕ → Type 0
+openedTable c t = first 7 ((t .ofMatrix ≡ true) × SomeNonlinear c) (first 8 (BrokenTarget (c .inputs) (length (c .outs)) t) accepted)
 
 -- edits, report, limits and store: nothing open (13), and then as the state says
 abbrev pub whenOpen : Present → (State → ℕ → Type 0) → ℕ → Type 0
@@ -101,13 +115,14 @@ abbrev pub pointTable : Present → ℕ → ℕ → ℕ → Type 0
 pointTable p j line =
     whenOpen p (λ s. first 12 (length (s .circuit .outs) ≤ j) (first 6 (s .circuit .inputs + length (s .circuit .gates) ≤ line) accepted))
 
--- change an entry: 12, then 8
-abbrev pub entryCauses : Listing → Target → ℕ → ℕ → ℕ → Type 0
-entryCauses c (matrix rows) i value = first 12 (length (c .outs) ≤ i) (first 8 (BadRow (c .inputs) value) accepted)
-entryCauses c (table entries) i value = first 12 (2 ^ c .inputs ≤ i) (first 8 (2 ^ length (c .outs) ≤ value) accepted)
+-- change an entry: 12, then 8; beside a table's entry the constant is 0
+abbrev pub entryCauses : Listing → Target → ℕ → ℕ → ℕ → ℕ → Type 0
+entryCauses c (matrix rows) i value constant = first 12 (length (c .outs) ≤ i) (first 8 (BrokenRow (c .inputs) (row value constant)) accepted)
+entryCauses c (table entries) i value constant =
+    first 12 (2 ^ c .inputs ≤ i) (first 8 ((2 ^ length (c .outs) ≤ value) ⊎ (constant ≡ 0 → ⊥)) accepted)
 
-abbrev pub changeTable : Present → ℕ → ℕ → ℕ → Type 0
-changeTable p i value = whenOpen p (λ s. entryCauses (s .circuit) (s .target) i value)
+abbrev pub changeTable : Present → ℕ → ℕ → ℕ → ℕ → Type 0
+changeTable p i value constant = whenOpen p (λ s. entryCauses (s .circuit) (s .target) i value constant)
 
 -- append a gate: 18 where 248 are there, then 4, 5, 7
 abbrev pub appendTable : Present → ℕ → ℕ → ℕ → ℕ → Type 0
@@ -158,9 +173,9 @@ abbrev pub NoRow : Target → ℕ → Type 0
 NoRow (matrix rows) j = length rows ≤ j
 NoRow (table entries) j = Unit {0}
 
--- row j is 0
+-- the mask of row j is 0
 abbrev pub RowIsZero : Target → ℕ → Type 0
-RowIsZero (matrix rows) j = getD rows j 0 ≡ 0
+RowIsZero (matrix rows) j = getD rows j noRow .mask ≡ 0
 RowIsZero (table entries) j = ⊥
 
 -- hint: 13; no matrix or no row j (12); then as a query, of which the row (8) and the depth (9) are left
@@ -200,7 +215,7 @@ abbrev pub callNo : Present → Call → ℕ
 callNo p (opening bytes t l) = answerNo (openAnswer bytes t)
 callNo p (replacing k kind a b) = answerNo (gateEditAnswer p k kind a b)
 callNo p (pointing j line) = answerNo (outputEditAnswer p j line)
-callNo p (changing i value) = answerNo (entryEditAnswer p i value)
+callNo p (changing i value constant) = answerNo (entryEditAnswer p i value constant)
 callNo p (limiting l) = answerNo (limitsAnswer p)
 callNo p sweeping = answerNo (sweepEdit p .answer)
 callNo p (appending kind a b) = answerNo (appendAnswer p kind a b)
@@ -211,7 +226,7 @@ abbrev pub callTable : Present → Call → ℕ → Type 0
 callTable p (opening bytes t l) = openTable bytes t
 callTable p (replacing k kind a b) = replaceTable p k kind a b
 callTable p (pointing j line) = pointTable p j line
-callTable p (changing i value) = changeTable p i value
+callTable p (changing i value constant) = changeTable p i value constant
 callTable p (limiting l) = openOnly p
 callTable p sweeping = openOnly p
 callTable p (appending kind a b) = appendTable p kind a b

@@ -19,7 +19,7 @@ use Rattle.circuit.proofs.Padding.{pad-read}
 use Rattle.circuit.proofs.RuleLaws.{circuit-fits}
 use Rattle.stored.specs.Stored.{stored}
 use Rattle.sweep.specs.Sweep.{swept}
-use Rattle.targets.specs.Target.{Target, isMatrix}
+use Rattle.targets.specs.Target.{isMatrix, Brought, asBrought}
 use Rattle.bench.specs.declared.Bench.{Bench}
 use Rattle.bench.specs.declared.Edit.{Edit}
 use Rattle.bench.specs.declared.Reported.{Reported}
@@ -44,7 +44,7 @@ abbrev pub Opens : Call → Type 0
 Opens (opening bytes t l) = openAnswer bytes t ≡ Done
 Opens (replacing k kind a b) = ⊥
 Opens (pointing j line) = ⊥
-Opens (changing i value) = ⊥
+Opens (changing i value constant) = ⊥
 Opens (limiting l) = ⊥
 Opens sweeping = ⊥
 Opens (appending kind a b) = ⊥
@@ -59,7 +59,7 @@ NoneOpens (call ∷ calls) = (Opens call → ⊥) × NoneOpens calls
 -- some calls have a last accepted opening, or none
 pub data LastOpening (calls : List Call) : Type 0 where
   never : NoneOpens calls → LastOpening calls
-  last : (before : List Call) (bytes : List ℕ) (t : Target) (l : Limits) (since : List Call) → calls ≡ before ++ opening bytes t l ∷ since
+  last : (before : List Call) (bytes : List ℕ) (t : Brought) (l : Limits) (since : List Call) → calls ≡ before ++ opening bytes t l ∷ since
       → openAnswer bytes t ≡ Done → NoneOpens since → LastOpening calls
 
 -- any sequence of calls has one or the other,
@@ -75,7 +75,7 @@ last-opening (call ∷ calls) = by (last-opening calls)
         go (Refused w) e = LastOpening.never (λ d. refused-not-done w (sym e ∙ d), n)
     here (replacing k kind a b) n = LastOpening.never (λ h. h, n)
     here (pointing j line) n = LastOpening.never (λ h. h, n)
-    here (changing i value) n = LastOpening.never (λ h. h, n)
+    here (changing i value constant) n = LastOpening.never (λ h. h, n)
     here (limiting l) n = LastOpening.never (λ h. h, n)
     here sweeping n = LastOpening.never (λ h. h, n)
     here (appending kind a b) n = LastOpening.never (λ h. h, n)
@@ -99,7 +99,7 @@ none-present (call ∷ calls) n = ap (λ (p : Present). presentFrom p calls) (st
         by (Refused w) h = refl
     stays (replacing k kind a b) h = refl
     stays (pointing j line) h = refl
-    stays (changing i value) h = refl
+    stays (changing i value constant) h = refl
     stays (limiting l) h = refl
     stays sweeping h = refl
     stays (appending kind a b) h = refl
@@ -107,7 +107,7 @@ none-present (call ∷ calls) n = ap (λ (p : Present). presentFrom p calls) (st
     stays (storing room) h = refl
 
 -- and otherwise it is what was opened, with what was called since then applied in order:
-pub since-last-opening : (before since : List Call) (bytes : List ℕ) (t : Target) (l : Limits) → openAnswer bytes t ≡ Done
+pub since-last-opening : (before since : List Call) (bytes : List ℕ) (t : Brought) (l : Limits) → openAnswer bytes t ≡ Done
     → presentAfter (before ++ opening bytes t l ∷ since) ≡ presentFrom (present (openState bytes t l)) since
 since-last-opening before since bytes t l = laws.since-open before since bytes t l
 
@@ -123,8 +123,8 @@ module _ (s : State) where
   pub output-pointed : (j line : ℕ) → outputEditAnswer (present s) j line ≡ Done → afterCall (present s) (pointing j line) ≡ present (outputEdited s j line)
   output-pointed j line e = ap (λ (x : Answer). after x (outputEdited s j line) (present s)) e
 
-  pub entry-changed : (i value : ℕ) → entryEditAnswer (present s) i value ≡ Done → afterCall (present s) (changing i value) ≡ present (entryEdited s i value)
-  entry-changed i value e = ap (λ (x : Answer). after x (entryEdited s i value) (present s)) e
+  pub entry-changed : (i value constant : ℕ) → entryEditAnswer (present s) i value constant ≡ Done → afterCall (present s) (changing i value constant) ≡ present (entryEdited s i value constant)
+  entry-changed i value constant e = ap (λ (x : Answer). after x (entryEdited s i value constant) (present s)) e
 
   pub limits-set : (l : Limits) → afterCall (present s) (limiting l) ≡ present (withLimits s l)
   limits-set l = refl
@@ -163,7 +163,7 @@ module _ {b : Bench} {calls : List Call} (run : Runs emptyBench calls b) where
 
   -- and so does a report on a fresh bench on which that circuit, target and limits were opened just now:
   pub report-as-opened-now : (s : State) → presentAfter calls ≡ present s → (fresh : Bench)
-      → Runs emptyBench (opening (stored (s .circuit)) (s .target) (s .limits) ∷ []) fresh → (r q : Reported) → ReportPromise b r → ReportPromise fresh q → r ≡ q
+      → Runs emptyBench (opening (stored (s .circuit)) (asBrought (s .target)) (s .limits) ∷ []) fresh → (r q : Reported) → ReportPromise b r → ReportPromise fresh q → r ≡ q
   report-as-opened-now s e fresh now r q h k =
       let same : fresh ≡ b = sym (laws.as-opened-now s run e now) in
       laws.report-after-calls run h ∙ sym (laws.report-after-calls run (subst (λ (x : Bench). ReportPromise x q) same k))
@@ -239,10 +239,11 @@ module _ {b : Bench} {calls : List Call} (run : Runs emptyBench calls b) where
     pointing-reworks-none j line edit next h =
         lines-stay (outputEdited s j line) (outputEditAnswer (present s) j line) edit next (λ i. record { depth = refl; andDepth = refl; values = refl }) (h (present s) stands)
 
-    pub changing-reworks-none : (i value : ℕ) (edit : Edit) (next : Bench) → EntryPromise b i value edit next → NoneReworked b (edit .count) next
+    pub changing-reworks-none : (i value constant : ℕ) (edit : Edit) (next : Bench) → EntryPromise b i value constant edit next → NoneReworked b (edit .count) next
     unfolding fullBench
-    changing-reworks-none i value edit next h =
-        lines-stay (entryEdited s i value) (entryEditAnswer (present s) i value) edit next (λ k. record { depth = refl; andDepth = refl; values = refl }) (h (present s) stands)
+    changing-reworks-none i value constant edit next h =
+        lines-stay (entryEdited s i value constant) (entryEditAnswer (present s) i value constant) edit next (λ k. record { depth = refl; andDepth = refl; values = refl })
+        (h (present s) stands)
 
     pub limiting-reworks-none : (l : Limits) (edit : Edit) (next : Bench) → LimitsPromise b l edit next → NoneReworked b (edit .count) next
     unfolding fullBench
@@ -250,7 +251,7 @@ module _ {b : Bench} {calls : List Call} (run : Runs emptyBench calls b) where
         lines-stay (withLimits s l) Done edit next (λ i. record { depth = refl; andDepth = refl; values = refl }) (h (present s) stands)
 
 -- From any bench, whatever it holds, calls that begin with an accepted opening are as from one with nothing open: all of this holds of them too.
-pub from-any-bench : {b last : Bench} {bytes : List ℕ} {t : Target} {l : Limits} {calls : List Call} → openAnswer bytes t ≡ Done
+pub from-any-bench : {b last : Bench} {bytes : List ℕ} {t : Brought} {l : Limits} {calls : List Call} → openAnswer bytes t ≡ Done
     → Runs b (opening bytes t l ∷ calls) last → Runs emptyBench (opening bytes t l ∷ calls) last
 from-any-bench e (RunsBy.more mid step rest) = RunsBy.more mid (laws.open-otherwise asTheyAre emptyBench e step) rest
 

@@ -2,10 +2,11 @@
 use mathlib.Core.Path.{_≡_, refl}
 use mathlib.Core.List.{List, [], _∷_}
 use Rattle.circuit.specs.Lines.{Gate, gate, listing, lines, reads, upto}
+use Rattle.circuit.specs.Rows.{sumOf}
 use Rattle.distance.specs.Query.{lookAt, answerOf, linesOf}
 use Rattle.bench.specs.Calls.{placesFrom}
 use Rattle.hint.specs.declared.Answer.the-variants.{Gates, Never}
-use Rattle.hint.specs.Hint.{sumOf, shallow, hinted, hintFor}
+use Rattle.hint.specs.Hint.{shallow, hinted, hintFor}
 
 -- x0 ^ x1 on line 3, and from there fifteen gates in a chain, each with x0: line 18 is 16 deep
 chain : List Gate
@@ -27,3 +28,8 @@ one-more = refl
 too-flat : hintFor (listing 3 [] (0 ∷ [])) 7 1 ≡ hinted Never []
 unfolding hintFor answerOf linesOf lookAt shallow placesFrom sumOf lines reads upto
 too-flat = refl
+
+-- x0 ^ x1 is there on the line of XNOR, but for a constant
+there-turned : hintFor (listing 2 (gate 1 0 1 ∷ []) (2 ∷ [])) 3 4 ≡ hinted (Gates 0) (2 ∷ [])
+unfolding hintFor answerOf linesOf lookAt shallow placesFrom sumOf lines reads upto
+there-turned = refl

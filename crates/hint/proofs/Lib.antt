@@ -1,7 +1,6 @@
 -- Laws of the definitions in specs/, which the proofs of the functions and the crates above cite. A reader begins with Theorems.
 pub mod Theorems
 pub mod Examples
-pub mod Computing
 pub mod Refusing
 pub mod Choosing
 pub mod Summing

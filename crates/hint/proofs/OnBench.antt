@@ -2,13 +2,14 @@
 use mathlib.Core.Path.{_≡_, refl, ap, ap₂, _∙_, sym}
 use mathlib.Core.Bool.{Bool, true, false, cond, true≢false}
 use mathlib.Core.List.{List, [], _∷_, _++_}
-use Prim.Native.Nat.{ℕ, _+_, _-_}
+use Prim.Native.Nat.{ℕ, _+_, _-_, _<_}
 use native.Mathlib.Omega.{arith}
-use borrow.Author.Tests.{eqb-true}
+use borrow.Author.Tests.{eqb-true, ltb-true}
 use lib.Dec.{ltb, eqb}
 use lib.ListN.{length, getD, replicate, length-replicate}
 use Rattle.circuit.specs.declared.Refusal.the-variants.{NotThere, NothingOpen}
 use Rattle.circuit.specs.Lines.{Listing, gateAt, padded, upto, depthStep}
+use Rattle.circuit.specs.Rows.{Row, noRow, maskStep, inputMasks, masks}
 use Rattle.circuit.specs.Sizes.{mostLines, mostValues}
 use Rattle.circuit.proofs.LineLaws.{lines-length, lines-agree}
 use Rattle.circuit.proofs.Padding.{pad-read}
@@ -17,6 +18,7 @@ use Rattle.circuit.proofs.Shapes.{both}
 use Rattle.circuit.proofs.Upto.{upto-same, upto-all}
 use Rattle.distance.specs.Query.{answerOf, linesOf}
 use Rattle.targets.specs.Target.{Target, matrix, table, isMatrix, targetBytes, targetFits}
+use Rattle.targets.proofs.Bytes.{row-read, rows-back}
 use Rattle.bench.specs.declared.Bench.{Bench}
 use Rattle.bench.specs.State.{State, Present}
 use Rattle.bench.specs.Held.{fullBench}
@@ -24,7 +26,7 @@ use Rattle.bench.specs.Parts.{gateOn}
 use Rattle.bench.proofs.Standing.{gate-of}
 use Rattle.bench.proofs.Stood.{openOn, when-open, when-shut}
 use Rattle.hint.specs.declared.Hinted.{Hinted}
-use Rattle.hint.specs.Hint.{maskStep, inputMasks, masks, depthsOf, shallow, picked, hintAnswer, hinted, noHint, hintFor, hintUnder, hintOf, HintPromise}
+use Rattle.hint.specs.Hint.{depthsOf, shallow, picked, hintAnswer, hinted, noHint, hintFor, hintUnder, hintOf, HintPromise}
 use Rattle.hint.specs.Parts.{masksOn, hintOn, isRow}
 
 -- zeros past the last line change nothing
@@ -52,14 +54,23 @@ on-full s f t D =
 
 -- ---- a row that is there, and one that is not
 
+-- the bytes of a matrix begin with its masks
+mask-read : (rows : List Row) (j : ℕ) → j < length rows → getD (padded mostValues 0 (targetBytes (matrix rows))) j 0 ≡ getD rows j noRow .mask
+mask-read rows j h =
+    let bytes = targetBytes (matrix rows) in
+    let l = padded mostValues 0 bytes in
+    ap (λ (r : Row). r .mask)
+    (sym (row-read 0 (length rows) l j h) ∙ ap (λ (rs : List Row). getD rs j noRow) (rows-back 0 rows l (λ k. pad-read bytes (mostValues - length bytes) k 0)))
+
 row-there : (c : Listing) (t : Target) (j D : ℕ) → targetFits (c .inputs) (length (c .outs)) t ≡ true → isRow (isMatrix t) j (length (c .outs)) ≡ true
     → hintFor c (getD (padded mostValues 0 (targetBytes t)) j 0) D ≡ hintUnder c t j D
 unfolding targetFits
 row-there c (table entries) j D fit h = absurd (true≢false (sym h))
 row-there c (matrix rows) j D fit h =
     let e = eqb-true (length rows) (length (c .outs)) (both (eqb (length rows) (length (c .outs))) fit .0) in
-    ap (λ (t : ℕ). hintFor c t D) (pad-read rows (mostValues - length rows) j 0)
-    ∙ sym (ap (λ (x : Bool). cond x (hintFor c (getD rows j 0) D) (noHint NotThere)) (ap (ltb j) e ∙ h))
+    let there = ap (ltb j) e ∙ h in
+    ap (λ (t : ℕ). hintFor c t D) (mask-read rows j (ltb-true j (length rows) there))
+    ∙ sym (ap (λ (x : Bool). cond x (hintFor c (getD rows j noRow .mask) D) (noHint NotThere)) there)
 
 row-gone : (c : Listing) (t : Target) (j D : ℕ) → targetFits (c .inputs) (length (c .outs)) t ≡ true → isRow (isMatrix t) j (length (c .outs)) ≡ false
     → noHint NotThere ≡ hintUnder c t j D
@@ -67,7 +78,7 @@ unfolding targetFits
 row-gone c (table entries) j D fit h = refl
 row-gone c (matrix rows) j D fit h =
     let e = eqb-true (length rows) (length (c .outs)) (both (eqb (length rows) (length (c .outs))) fit .0) in
-    sym (ap (λ (x : Bool). cond x (hintFor c (getD rows j 0) D) (noHint NotThere)) (ap (ltb j) e ∙ h))
+    sym (ap (λ (x : Bool). cond x (hintFor c (getD rows j noRow .mask) D) (noHint NotThere)) (ap (ltb j) e ∙ h))
 
 -- ---- the call
 

@@ -10,6 +10,7 @@ use lib.ListN.{length, getD, take, set}
 use lib.Pow.{shl-exact}
 use Rattle.circuit.specs.Gate.{Kind, kindOf, operands}
 use Rattle.circuit.specs.Lines.{Gate, reads, padded}
+use Rattle.circuit.specs.Rows.{sumOf, maskStep, inputMasks}
 use Rattle.circuit.specs.Sizes.{mostLines}
 use Rattle.circuit.proofs.GateLaws.{two-operands, high-not}
 use Rattle.circuit.proofs.LineLaws.{made}
@@ -17,7 +18,6 @@ use Rattle.circuit.proofs.Upto.{upto-length}
 use Rattle.bench.specs.declared.Bench.{Bench}
 use Rattle.bench.specs.Parts.{gateOn, entries}
 use Rattle.bench.proofs.Examining.{entries-read, entries-start, entries-next}
-use Rattle.hint.specs.Hint.{sumOf, maskStep, inputMasks}
 use Rattle.hint.specs.Parts.{readSum, masksOn}
 
 -- `1 << i` in a byte

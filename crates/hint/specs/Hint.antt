@@ -1,14 +1,15 @@
--- A hint: how far a row of the open matrix is from the lines of the open circuit, and from which of them.
+-- A hint: how far a row of the open matrix is from the lines of the open circuit, and from which of them. Constants do not count:
+-- of a row its mask alone, and of a line behind XNOR or NOT the inputs that it sums.
 use mathlib.Core.Path.{_≡_}
 use mathlib.Core.Bool.{cond}
-use mathlib.Core.List.{List, [], _∷_, map}
-use Prim.Native.Nat.{ℕ, _+_, _^_}
-use lib.Bits.{bitXor}
+use mathlib.Core.List.{List, [], map}
+use Prim.Native.Nat.{ℕ, _+_}
 use lib.Dec.{leb, ltb}
 use lib.ListN.{length, getD}
 use Rattle.circuit.specs.declared.Refusal.{Refusal}
 use Rattle.circuit.specs.declared.Refusal.the-variants.{Shape, Length, Target as BadTarget, TooDeep, NotThere, NothingOpen}
-use Rattle.circuit.specs.Lines.{Gate, Listing, gateAt, lines, depths, upto}
+use Rattle.circuit.specs.Lines.{Listing, gateAt, depths}
+use Rattle.circuit.specs.Rows.{noRow, masksOf}
 use Rattle.circuit.specs.Rules.{refusalNo}
 use Rattle.distance.specs.declared.Refusal.{Refusal as QueryRefusal}
 use Rattle.distance.specs.declared.Refusal.the-variants.{Inputs, Lists, Mask, Depth}
@@ -25,30 +26,7 @@ use Rattle.hint.specs.declared.Answer.{Answer}
 use Rattle.hint.specs.declared.Answer.the-variants.{Gates, Never, Refused}
 use Rattle.hint.specs.declared.Hinted.{Hinted}
 
--- ---- which inputs each line sums
-
--- the sum of some masks: the inputs that an odd number of them has
-unfoldable pub sumOf : List ℕ → ℕ
-sumOf [] = 0
-sumOf (x ∷ xs) = bitXor x (sumOf xs)
-
--- a gate's line sums what the lines that it reads sum
-abbrev pub maskStep : ℕ → Gate → List ℕ → ℕ
-maskStep k q xs = sumOf xs
-
--- the masks of n inputs: input i is 2 ^ i
-abbrev pub inputMasks : ℕ → List ℕ
-inputMasks n = upto (λ (i : ℕ). 2 ^ i) n
-
--- the mask of each line, over n inputs and the first j gates: which inputs it sums
-abbrev pub masks : ℕ → (ℕ → Gate) → ℕ → List ℕ
-masks n gates = lines maskStep 0 (inputMasks n) gates
-
--- the mask of each line of a circuit,
-abbrev pub masksOf : Listing → List ℕ
-masksOf c = masks (c .inputs) (gateAt c) (length (c .gates))
-
--- and the depth of each
+-- the depth of each line of a circuit
 abbrev pub depthsOf : Listing → List ℕ
 depthsOf c = depths (c .inputs) (gateAt c) (length (c .gates))
 
@@ -101,9 +79,9 @@ hintFrom n is ms ds t D = hinted (hintAnswer (answerFrom n is ms ds t D)) (lines
 unfoldable pub hintFor : Listing → ℕ → ℕ → Hinted
 hintFor c t D = hintFrom (c .inputs) (shallow (depthsOf c)) (masksOf c) (depthsOf c) t D
 
--- of a circuit under a target: no matrix or no row j (12), and then as the query to that row
+-- of a circuit under a target: no matrix or no row j (12), and then as the query to that row's mask, of a row with a constant too
 abbrev pub hintUnder : Listing → Target → ℕ → ℕ → Hinted
-hintUnder c (matrix rows) j D = cond (ltb j (length rows)) (hintFor c (getD rows j 0) D) (noHint NotThere)
+hintUnder c (matrix rows) j D = cond (ltb j (length rows)) (hintFor c (getD rows j noRow .mask) D) (noHint NotThere)
 hintUnder c (table entries) j D = noHint NotThere
 
 -- what a hint answers: nothing open (13), and then as above

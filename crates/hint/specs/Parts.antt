@@ -6,6 +6,7 @@ use lib.Dec.{ltb}
 use lib.ListN.{length, getD, take}
 use Rattle.circuit.specs.Gate.{kindOf, operands}
 use Rattle.circuit.specs.Lines.{padded, upto}
+use Rattle.circuit.specs.Rows.{sumOf, maskStep, inputMasks}
 use Rattle.circuit.specs.Sizes.{mostLines}
 use Rattle.circuit.specs.Structs.{lineIn}
 use Rattle.bench.specs.declared.Bench.{Bench}
@@ -13,7 +14,7 @@ use Rattle.bench.specs.Parts.{gateOn, entries}
 use Rattle.distance.specs.Query.{inEight}
 use Rattle.hint.specs.declared.Base.{Base}
 use Rattle.hint.specs.declared.Hinted.{Hinted}
-use Rattle.hint.specs.Hint.{sumOf, maskStep, inputMasks, shallow, picked, hintFrom}
+use Rattle.hint.specs.Hint.{shallow, picked, hintFrom}
 
 -- the sum of what a gate of a kind reads, where its operands have a and b
 unfoldable pub readSum : ℕ → ℕ → ℕ → ℕ

@@ -1,9 +1,10 @@
-// The hint: how far a row of the open matrix is from the lines of the open circuit, and which of them make it.
+// The hint: how far a row of the open matrix is from the lines of the open circuit, and which of them make it, but for a constant.
 ghost use mathlib.Core.Path.{_≡_};
 ghost use Prim.Native.Nat.{_≤_};
 ghost use Rattle.circuit.specs.Sizes.{mostInputs, mostGates, mostLines};
 ghost use Rattle.circuit.specs.Lines.{padded};
-ghost use Rattle.hint.specs.Hint.{inputMasks, hintRefusal, hintAnswer, noHint, HintPromise, hintCode, HintCode};
+ghost use Rattle.circuit.specs.Rows.{inputMasks};
+ghost use Rattle.hint.specs.Hint.{hintRefusal, hintAnswer, noHint, HintPromise, hintCode, HintCode};
 ghost use Rattle.hint.specs.Parts.{readSum, masksOn, gathered, numbered, hintOn, isRow};
 use bench::Bench;
 use bench::edits::is_standing;
@@ -185,7 +186,7 @@ fn is_row(only: bool, j: usize, m: usize) -> bool
     if only { j < m } else { false }
 }
 
-// How far row j of the open matrix is from the lines of the open circuit, within depth d, and from which of them.
+// How far row j of the open matrix is from the lines of the open circuit, within depth d, and from which of them: by its mask alone.
 pub fn hint(bench: Bench, j: usize, d: usize) -> Hinted
     ensures { λ r. ⌜ HintPromise bench j d r ⌝ }
 {

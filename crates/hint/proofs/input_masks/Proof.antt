@@ -6,9 +6,9 @@ use mathlib.Core.List.{List}
 use Prim.Native.Nat.{ℕ, _≤_, _-_, _*_, _%_, _^_}
 use lib.ListN.{set}
 use Rattle.circuit.specs.Lines.{padded, upto}
+use Rattle.circuit.specs.Rows.{inputMasks}
 use Rattle.circuit.specs.Sizes.{mostLines}
 use Rattle.circuit.proofs.Upto.{upto-put}
-use Rattle.hint.specs.Hint.{inputMasks}
 use Rattle.hint.proofs.Summing.{input-is}
 use Rattle.hint.proofs.input_masks.Statement.{statement}
 use Rattle.hint.proofs.input_masks.Tie as tie
