@@ -8,7 +8,7 @@ use lib.ListN.{set}
 use Rattle.circuit.specs.Sizes.{mostInputs}
 use Rattle.circuit.specs.Gate.{valueIn}
 use Rattle.circuit.specs.Lines.{upto, padded}
-use Rattle.targets.proofs.Packing.{upto-put}
+use Rattle.circuit.proofs.Upto.{upto-put}
 use Rattle.talk.specs.Texts.{valueBytes, byteOf}
 use Rattle.talk.specs.Saying.{packedMost}
 use Rattle.talk.proofs.values.value_bytes.Statement.{statement}
@@ -48,7 +48,7 @@ loop-again c =
       search needs,
       search needs,
       search needs,
-      ap₂ (λ (b : List ℕ) (v : ℕ). set b (l .j) v) (l .inv .4) (c .value-byte .ensures) ∙ upto-put (byteOf (valueIn (a .w)) (a .n)) 0 packedMost (l .j) (omega arith),
+      ap₂ (λ (b : List ℕ) (v : ℕ). set b (l .j) v) (l .inv .4) (c .value-byte .ensures) ∙ upto-put packedMost 0 (byteOf (valueIn (a .w)) (a .n)) (l .j) _ refl (omega arith),
     )
 
 returns : tie.Need-returns Inv-loop μ-loop
