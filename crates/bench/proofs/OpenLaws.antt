@@ -22,9 +22,9 @@ use Rattle.stored.specs.Stored.{listingIn}
 use Rattle.stored.specs.Reading.{readAnswer, readingOf}
 use Rattle.stored.proofs.Round.{listing-accepted}
 use Rattle.stored.proofs.Restoring.{read-answer, read-circuit}
-use Rattle.targets.specs.Target.{Target, isMatrix, targetBytes, targetFits, Brought, brought, targetIn, broughtFits}
+use Rattle.targets.specs.Target.{isMatrix, targetBytes, targetFits, Brought, brought, targetIn, broughtFits}
 use Rattle.targets.specs.Wanted.{wantedIn}
-use Rattle.targets.proofs.Bytes.{kind-by, Bringing, brings, target-short}
+use Rattle.targets.proofs.Bytes.{kind-by, brings, target-short}
 use Rattle.targets.proofs.Wanting.{wanted-padded}
 use Rattle.bench.specs.declared.Bench.{Bench}
 use Rattle.bench.specs.declared.Opened.{Opened}

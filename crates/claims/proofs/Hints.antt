@@ -9,12 +9,10 @@ use borrow.Author.Tests.{lt-ltb}
 use lib.Bits.{differ}
 use lib.Dec.{ltb}
 use lib.ListN.{length, getD}
-use Rattle.circuit.specs.declared.Answer.the-variants.{Done}
 use Rattle.circuit.specs.declared.Refusal.{Refusal}
 use Rattle.circuit.specs.declared.Refusal.the-variants.{NotThere, NothingOpen}
-use Rattle.circuit.specs.Lines.{Listing, gateAt, values}
-use Rattle.circuit.specs.Rows.{Row, noRow, onRow, masksOf, lineRow}
-use Rattle.circuit.specs.Rules.{listingAnswer}
+use Rattle.circuit.specs.Lines.{Listing}
+use Rattle.circuit.specs.Rows.{Row, noRow, masksOf}
 use Rattle.distance.specs.declared.Answer.{Answer as QueryAnswer}
 use Rattle.distance.specs.declared.Answer.the-variants.{Gates as QueryGates, Never as QueryNever, Refused as QueryRefused}
 use Rattle.distance.specs.declared.Refusal.{Refusal as QueryRefusal}
@@ -206,8 +204,3 @@ module _ {b : Bench} {calls : List Call} (run : Runs emptyBench calls b) (j D : 
     -- None: no lines reach it.
     pub hint-none : r .answer ≡ Never → (ys : List ℕ) → Reaches (s .circuit) (getD rows j noRow .mask) D ys → ⊥
     hint-none never = hints.hint-never (s .circuit) (getD rows j noRow .mask) D (sym (ap (λ (h : Hinted). h .answer) row-hint) ∙ never)
-
--- Under a matrix every line is linear: its value on an input value is the row of its mask on it, plus its constant, which is its value on 0.
-pub lines-linear : (c : Listing) → listingAnswer true c ≡ Done
-    → (x i : ℕ) → getD (values x (c .inputs) (gateAt c) (length (c .gates))) i 0 ≡ onRow (lineRow c i) x
-lines-linear = hints.lines-linear

@@ -13,7 +13,7 @@ use Rattle.circuit.specs.declared.Refusal.{Refusal}
 use Rattle.circuit.specs.declared.Refusal.the-variants.{Target as BadTarget, TooDeep, NotThere}
 use Rattle.circuit.specs.Gate.{rowOn}
 use Rattle.circuit.specs.Lines.{Listing, gateAt, values}
-use Rattle.circuit.specs.Rows.{Row, noRow, onRow, sumOf, masksOf, lineRow}
+use Rattle.circuit.specs.Rows.{Row, noRow, onRow, sumOf, masksOf}
 use Rattle.circuit.specs.Rules.{refusalNo, listingAnswer}
 use Rattle.circuit.specs.Sizes.{maskWidth}
 use Rattle.circuit.proofs.GateLaws.{differ-none, differ-self}
@@ -82,20 +82,14 @@ offset c r xs = differ (summed c xs 0) (r .constant)
 
 -- ---- what the masks are
 
--- In a circuit that may stand under a matrix every line is linear: its value on an input value is the sum modulo 2 of the inputs that
--- its mask has, plus its constant, which is its value on 0.
-pub lines-linear : (c : Listing) → listingAnswer true c ≡ Done
-    → (x i : ℕ) → getD (values x (c .inputs) (gateAt c) (length (c .gates))) i 0 ≡ onRow (lineRow c i) x
-lines-linear = matrix-linear
-
--- So the values of some lines sum to what their masks sum to, plus their sum on 0.
+-- The values of some lines of a circuit that may stand under a matrix sum to what their masks sum to, plus their sum on 0.
 pub sum-compute : (c : Listing) → listingAnswer true c ≡ Done
     → (x : ℕ) (is : List ℕ) → summed c is x ≡ differ (rowOn maskWidth (sumOf (picked is (masksOf c))) x) (summed c is 0)
 unfolding onRow
 sum-compute c ok x is =
     let g = length (c .gates) in
     sum-linear maskWidth x (λ (i : ℕ). getD (values x (c .inputs) (gateAt c) g) i 0) (λ (i : ℕ). getD (masksOf c) i 0)
-    (λ (i : ℕ). getD (values 0 (c .inputs) (gateAt c) g) i 0) (values-small 0 (c .inputs) (gateAt c) g) (lines-linear c ok x) is
+    (λ (i : ℕ). getD (values 0 (c .inputs) (gateAt c) g) i 0) (values-small 0 (c .inputs) (gateAt c) g) (matrix-linear c ok x) is
 
 -- ---- what an answer shows
 

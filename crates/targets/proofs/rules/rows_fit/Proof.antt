@@ -2,9 +2,8 @@
 use borrow.Author.Needs.{needs}
 use native.Mathlib.Omega.{arith}
 use mathlib.Core.Path.{_≡_, refl, ap, ap₂, _∙_, sym}
-use mathlib.Core.Bool.{Bool}
-use Prim.Native.Nat.{_≤_, _-_, _<_}
-use lib.ListN.{length, getD, drop}
+use Prim.Native.Nat.{_≤_, _-_}
+use lib.ListN.{getD, drop}
 use borrow.Author.Tests.{not-true, not-false}
 use Rattle.circuit.specs.Rows.{row, noRow}
 use Rattle.circuit.specs.Rules.{allOf}
