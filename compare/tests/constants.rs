@@ -73,6 +73,35 @@ fn gates_to_and_fro(pair: &mut Pair, c: &Circuit) {
     assert_eq!(verdict(pair), Verdict::Pass);
 }
 
+/// An example like K8 to K12, counted on paper: XNOR(0, 1), NOT(0) and XNOR(0, 0), which is 1, under rows 3, 0 and 1 with constants 1.
+/// Then a constant is taken away and the gate follows it, of each row in turn.
+#[test]
+fn an_example_counted_on_paper() {
+    let mut pair = Pair::default();
+    let bytes = [
+        0x53, 0x48, 2, 3, 3, 0x47, 0x54, 1, 0, 1, 0x47, 0x54, 6, 0, 0, 0x47, 0x54, 1, 0, 0, 0x4F, 0x50, 2, 0x4F, 0x50, 4, 0x4F, 0x50, 3,
+    ];
+    let limits = Limits { gates: 3, depth: 1, and_depth: 0 };
+    assert_eq!(pair.try_open(&bytes, &Target::matrix(&[3, 0, 1, 1, 1, 1]), limits), Ok(()));
+    assert_eq!(verdict(&mut pair), Verdict::Pass);
+    assert_eq!(pair.change_entry([1, 0, 0]), Ok(vec![]));
+    assert_eq!(verdict(&mut pair), wrong(0, 1));
+    assert_eq!(pair.replace_gate([2, 0, 0, 0]), Ok(vec![4])); // XOR(0, 0) is 0
+    assert_eq!(verdict(&mut pair), Verdict::Pass);
+    assert_eq!(pair.change_entry([2, 1, 0]), Ok(vec![]));
+    assert_eq!(verdict(&mut pair), wrong(0, 2));
+    assert_eq!(pair.point_output(2, 0), Ok(vec![]));
+    assert_eq!(verdict(&mut pair), Verdict::Pass);
+    assert_eq!(pair.change_entry([0, 2, 1]), Ok(vec![])); // x1 + 1 and x0 + x1 + 1 first differ on input value 1
+    assert_eq!(verdict(&mut pair), wrong(1, 0));
+    assert_eq!(pair.replace_gate([0, 6, 1, 0]), Ok(vec![2]));
+    assert_eq!(verdict(&mut pair), Verdict::Pass);
+    assert_eq!(pair.replace_gate([0, 2, 0, 1]), Err(7));
+    assert_eq!(pair.hint([1, 1]), Err(8));
+    assert_eq!(pair.hint([0, 1]), Ok(Some((0, vec![1])))); // by masks alone: line 1 has the mask of ~x1
+    assert_eq!(verdict(&mut pair), Verdict::Pass);
+}
+
 /// The step with XNOR gates, with NOT gates at the end, and as the XOR program that is built, which lacks the constants: by each depth
 /// limit a program of its own.
 #[test]
