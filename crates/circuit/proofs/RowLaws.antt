@@ -4,16 +4,16 @@ use mathlib.Core.Bool.{true}
 use mathlib.Core.Logic.{⊎-elim}
 use mathlib.Core.List.{List, [], _∷_, map}
 use Prim.Native.Nat.{ℕ, zero, suc, _+_, _-_, _*_, _/_, _%_, _^_, _≤_, _<_}
-use native.Mathlib.Nat.{zero-add}
+use native.Mathlib.Nat.{zero-add, pow-suc}
 use native.Mathlib.Omega.{arith}
-use lib.Bits.{bitAnd, bitXor, xor-lt, xor-step, xor-zero-r, differ}
+use lib.Bits.{bitAnd, bitXor, and-comm, xor-lt, xor-step, xor-zero-r, differ}
 use lib.ListN.{length, getD, take, List·getD-eq-default}
-use lib.Pow.{pow-pos, pow-lt, pow-mono}
+use lib.Pow.{pow-pos, pow-lt, pow-mono, shr-shr}
 use Rattle.circuit.specs.declared.Answer.the-variants.{Done}
 use Rattle.circuit.specs.Sizes.{mostInputs, mostValues, maskWidth}
-use Rattle.circuit.specs.Gate.{Kind, bit, rowOn, truth, kindOf, nonlinear, operands}
+use Rattle.circuit.specs.Gate.{Kind, bit, parity, rowOn, truth, kindOf, nonlinear, operands}
 use Rattle.circuit.specs.Lines.{Gate, Listing, gateAt, lines, reads, upto, inputsOn, truthStep, values}
-use Rattle.circuit.specs.Rows.{Row, onRow, sumOf, maskStep, inputMasks, masks, lineRow}
+use Rattle.circuit.specs.Rows.{Row, row, onRow, sumOf, maskStep, inputMasks, masks, lineRow}
 use Rattle.circuit.specs.Rules.{listingAnswer}
 use Rattle.circuit.proofs.GateLaws.{bit-and, bit-lt, bit-above, differ-sum, differ-none, differ-lt}
 use Rattle.circuit.proofs.LineLaws.{snoc-all, place, lines-length, lines-one, lines-at}
@@ -38,6 +38,43 @@ row-narrow k (suc i) row x h =
 pub on-row-narrow : (r : Row) (x : ℕ) → x < mostValues → onRow r x ≡ differ (rowOn mostInputs (r .mask) x) (r .constant)
 unfolding onRow
 on-row-narrow r x h = ap (λ (u : ℕ). differ u (r .constant)) (row-narrow mostInputs (maskWidth - mostInputs) (r .mask) x h)
+
+-- ---- a row is known by its values
+
+-- two numbers of n digits that have the same digits are one
+bits-known : (n a b : ℕ) → a < 2 ^ n → b < 2 ^ n → ((i : ℕ) → i < n → bit i a ≡ bit i b) → a ≡ b
+bits-known zero a b p q same = omega arith
+bits-known (suc n) a b p q same =
+    let next : (z i : ℕ) → bit i (z / 2) ≡ bit (suc i) z = λ z i. ap (λ (u : ℕ). u % 2) (shr-shr z 1 i ∙ ap (λ (k : ℕ). z / 2 ^ k) (omega arith)) in
+    let halves =
+    bits-known n (a / 2) (b / 2) (omega (arith, pow-suc 2 n)) (omega (arith, pow-suc 2 n))
+    (λ i h. next a i ∙ same (suc i) (omega arith) ∙ sym (next b i)) in
+    omega (arith, halves, same 0 (omega arith))
+
+-- a row where no input is 1, and where input i alone is
+module _ (r : Row) where
+  -- a mask and an input value may change places
+  turned : (x : ℕ) → onRow r x ≡ differ (rowOn maskWidth x (r .mask)) (r .constant)
+  unfolding onRow
+  turned x = ap (λ (u : ℕ). differ (parity maskWidth u) (r .constant)) (and-comm (r .mask) x)
+
+  on-none : onRow r 0 ≡ r .constant
+  on-none = turned 0 ∙ ap (λ (u : ℕ). differ u (r .constant)) (row-none maskWidth (r .mask))
+
+  on-one : r .constant < 2 → (i : ℕ) → i < maskWidth → onRow r (2 ^ i) ≡ (bit i (r .mask) + r .constant) % 2
+  on-one c i h =
+      turned (2 ^ i)
+      ∙ ap (λ (u : ℕ). differ u (r .constant)) (row-input maskWidth i (r .mask) h)
+      ∙ differ-sum (bit i (r .mask)) (r .constant) (bit-lt i (r .mask)) c
+
+-- so two rows over n inputs that are the same on every input value are one row
+pub row-known : (n : ℕ) → n ≤ maskWidth → (r s : Row) → r .mask < 2 ^ n → s .mask < 2 ^ n → r .constant < 2 → s .constant < 2
+    → ((x : ℕ) → x < 2 ^ n → onRow r x ≡ onRow s x) → r ≡ s
+row-known n few r s rm sm rc sc same =
+    let constants : r .constant ≡ s .constant = sym (on-none r) ∙ same 0 (pow-pos n) ∙ on-none s in
+    let bits : (i : ℕ) → i < n → bit i (r .mask) ≡ bit i (s .mask) =
+    λ i h. omega (arith, constants, on-one r rc i (omega arith), on-one s sc i (omega arith), same (2 ^ i) (pow-lt h), bit-lt i (r .mask), bit-lt i (s .mask)) in
+    ap₂ row (bits-known n (r .mask) (s .mask) rm sm bits) constants
 
 -- ---- what bounds each line
 
@@ -205,15 +242,11 @@ module _ (x n : ℕ) (gates : ℕ → Gate) (few : n ≤ maskWidth) where
       (λ l. none-linear (suc j) i (omega arith)))
       (place i (n + j))
 
--- the same of a circuit: each line is what its row has on every input value
-pub line-linear : (c : Listing) → c .inputs ≤ maskWidth → ((k : ℕ) → k < length (c .gates) → nonlinear (kindOf (gateAt c k .kind)) ≡ 0)
-    → (x i : ℕ) → getD (values x (c .inputs) (gateAt c) (length (c .gates))) i 0 ≡ onRow (lineRow c i) x
-unfolding onRow
-line-linear c few linear x i = lines-linear x (c .inputs) (gateAt c) few (length (c .gates)) linear i
-
--- as in one that may stand under a matrix
+-- in a circuit that may stand under a matrix every line is linear: its value on an input value is its row on it
 pub matrix-linear : (c : Listing) → listingAnswer true c ≡ Done
     → (x i : ℕ) → getD (values x (c .inputs) (gateAt c) (length (c .gates))) i 0 ≡ onRow (lineRow c i) x
-matrix-linear c ok =
+unfolding onRow
+matrix-linear c ok x i =
     let f = circuit-fits true c ok in
-    line-linear c (omega (arith, f .shape .n-most)) (λ k h. gate-fits true (c .inputs + k) (gateAt c k) (f .gates k h) .linear refl)
+    lines-linear x (c .inputs) (gateAt c) (omega (arith, f .shape .n-most)) (length (c .gates))
+    (λ k h. gate-fits true (c .inputs + k) (gateAt c k) (f .gates k h) .linear refl) i

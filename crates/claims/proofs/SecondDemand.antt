@@ -10,7 +10,7 @@ use Prim.Native.Nat.{ℕ, zero, suc, _+_, _-_, _%_, _^_, _≤_, _<_, min}
 use native.Mathlib.Nat.{add-zero, eq-or-lt-of-le}
 use native.Mathlib.Omega.{arith}
 use lib.Bits.{differ}
-use borrow.Author.Tests.{ltb-true}
+use borrow.Author.Tests.{ltb-true, eqb-true}
 use lib.Dec.{leb, ltb, eqb}
 use lib.ListN.{length, getD, take, drop, replicate, length-map, List·getD-map}
 use lib.Pow.{pow-mono}
@@ -21,11 +21,11 @@ use Rattle.circuit.specs.declared.Answer.the-variants.{Done, Refused}
 use Rattle.circuit.specs.Gate.{bit, rowOn}
 use Rattle.circuit.specs.Lines.{Listing, gateAt, values, andStep, andDepths, depthOf, andDepthOf, outputOn, anyOf, lines, listing}
 use Rattle.circuit.specs.Rows.{Row, row, noRow, onRow, masksOf, lineRow}
-use Rattle.circuit.specs.Rules.{shaped}
+use Rattle.circuit.specs.Rules.{shaped, listingAnswer}
 use Rattle.circuit.proofs.GateLaws.{bit-lt, bit-and, bit-above, differ-sum}
 use Rattle.circuit.proofs.LineLaws.{greatest-read}
-use Rattle.circuit.proofs.RowLaws.{line-linear, values-small}
-use Rattle.circuit.proofs.RuleLaws.{gate-fits, circuit-fits}
+use Rattle.circuit.proofs.RowLaws.{matrix-linear, masks-small, values-small, row-known}
+use Rattle.circuit.proofs.RuleLaws.{circuit-fits}
 use Rattle.circuit.proofs.Shapes.{both}
 use Rattle.stored.specs.declared.Writing.{Writing}
 use Rattle.stored.specs.declared.Writing.the-variants.{Written, NotWritten}
@@ -53,7 +53,7 @@ use Rattle.builder.proofs.Begin.{arriving-length}
 use Rattle.builder.proofs.Values.{lines-whole}
 use Rattle.builder.proofs.AsLate.{atOnce, alike}
 use Rattle.builder.proofs.Theorems as building
-use Rattle.targets.specs.Target.{matrix, table, isMatrix, wants, rowFits, targetFits, Brought, brought, asBrought}
+use Rattle.targets.specs.Target.{Target, matrix, table, isMatrix, wants, rowFits, targetFits, Brought, brought, asBrought}
 use Rattle.targets.proofs.Fitting.{all-there}
 use Rattle.bench.specs.declared.Bench.{Bench}
 use Rattle.bench.specs.declared.Place.{Place}
@@ -66,7 +66,7 @@ use Rattle.bench.specs.Calls.{openAnswer, reported, ReportPromise}
 use Rattle.bench.specs.Run.{Call, presentAfter, Runs}
 use Rattle.bench.specs.Run.Call.{opening}
 use Rattle.bench.proofs.RunLaws.{after-calls, report-after-calls, opens, opens-as}
-use Rattle.report.proofs.PassLaws.{Right, FirstWrong, pass-right, right-pass, wrong-first, first-wrong}
+use Rattle.report.proofs.PassLaws.{Right, FirstWrong, pass-right, right-pass, wrong-first, first-wrong, never-wrong}
 use Rattle.claims.proofs.Causes.{Some, Tells, tells-some, passes, silent}
 use Rattle.claims.proofs.Tables.{OutOfRange, BadRow, BrokenRow, LateRow}
 use Rattle.claims.proofs.Following.{range-law, rows-law, row-tells, heavy-tells, deep-tells, late-tells}
@@ -95,12 +95,22 @@ pub matrix-wants : (rows : List Row) (x j : ℕ) → getD rows j noRow .constant
     → wants (matrix rows) x j ≡ (onesIn 32 (getD rows j noRow .mask) x + getD rows j noRow .constant) % 2
 matrix-wants rows x j = row-on (getD rows j noRow) x
 
--- In a matrix that keeps its rule each constant is 0 or 1.
-pub constants-fit : (n m : ℕ) (rows : List Row) → targetFits n m (matrix rows) ≡ true → (j : ℕ) → j < length rows → getD rows j noRow .constant < 2
-unfolding targetFits rowFits
-constants-fit n m rows f j h =
-    let r = getD rows j noRow in
-    ltb-true (r .constant) 2 (both (ltb (r .mask) (2 ^ n)) (all-there noRow (rowFits n) rows j (both (eqb (length rows) m) f .1) h) .1)
+-- A matrix that keeps its rule has as many rows as there are outputs, and each row keeps its own:
+module _ (n m : ℕ) (rows : List Row) (f : targetFits n m (matrix rows) ≡ true) where
+  rows-many : length rows ≡ m
+  unfolding targetFits
+  rows-many = eqb-true (length rows) m (both (eqb (length rows) m) f .0)
+
+  row-keeps : (j : ℕ) → j < length rows → let r = getD rows j noRow in (ltb (r .mask) (2 ^ n) ≡ true) × (ltb (r .constant) 2 ≡ true)
+  unfolding targetFits rowFits
+  row-keeps j h = both (ltb (getD rows j noRow .mask) (2 ^ n)) (all-there noRow (rowFits n) rows j (both (eqb (length rows) m) f .1) h)
+
+  -- its mask has none but the n inputs, and its constant is 0 or 1.
+  pub masks-fit : (j : ℕ) → j < length rows → getD rows j noRow .mask < 2 ^ n
+  masks-fit j h = ltb-true (getD rows j noRow .mask) (2 ^ n) (row-keeps j h .0)
+
+  pub constants-fit : (j : ℕ) → j < length rows → getD rows j noRow .constant < 2
+  constants-fit j h = ltb-true (getD rows j noRow .constant) 2 (row-keeps j h .1)
 
 -- What a table asks: bit j of the entry.
 pub table-wants : (entries : List ℕ) (x j : ℕ) → wants (table entries) x j ≡ bit j (getD entries x 0)
@@ -132,16 +142,42 @@ lineOn c x i = getD (values x (c .inputs) (gateAt c) (length (c .gates))) i 0
 module _ (s : State) (ok : Sound s) (only : isMatrix (s .target) ≡ true) where
   -- a line's value on every input is its row on it: its mask is the one that a hint counts by (`masksOf`), its constant the value on input value 0.
   pub lines-linear : (x i : ℕ) → lineOn (s .circuit) x i ≡ onRow (lineRow (s .circuit) i) x
-  lines-linear =
-      let c = s .circuit in
-      let f = circuit-fits (isMatrix (s .target)) c (ok .circuit) in
-      line-linear c (omega (arith, f .shape .n-most)) (λ k h. gate-fits (isMatrix (s .target)) (c .inputs + k) (gateAt c k) (f .gates k h) .linear only)
+  lines-linear = matrix-linear (s .circuit) (ap (λ (t : Bool). listingAnswer t (s .circuit)) (sym only) ∙ ok .circuit)
 
   -- In numbers: it is the sum modulo 2 of the inputs that the mask has, plus the constant.
   pub lines-summed : (x i : ℕ) → lineOn (s .circuit) x i ≡ (onesIn 32 (getD (masksOf (s .circuit)) i 0) x + lineOn (s .circuit) 0 i) % 2
   lines-summed x i =
       let c = s .circuit in
       lines-linear x i ∙ row-on (lineRow c i) x (values-small 0 (c .inputs) (gateAt c) (length (c .gates)) i)
+
+-- So where the target is a matrix
+module _ (s : State) (ok : Sound s) (rows : List Row) (given : s .target ≡ matrix rows) where
+  -- output j is right on every input exactly when the row of its line, mask and constant, is the target's row;
+  pub right-by-rows : (j : ℕ) → j < length (s .circuit .outs)
+      → ((x : ℕ) → x < 2 ^ s .circuit .inputs → outputOn (s .circuit) x j ≡ wants (s .target) x j) ↔ (lineRow (s .circuit) (getD (s .circuit .outs) j 0) ≡ getD rows j noRow)
+  right-by-rows j h =
+      let c = s .circuit in
+      let n = c .inputs in
+      let m = length (c .outs) in
+      let g = length (c .gates) in
+      let i = getD (c .outs) j 0 in
+      let few = circuit-fits (isMatrix (s .target)) c (ok .circuit) .shape .n-most in
+      let fit = ap (targetFits n m) (sym given) ∙ ok .target in
+      let there : j < length rows = omega (arith, rows-many n m rows fit) in
+      let line : (x : ℕ) → outputOn c x j ≡ onRow (lineRow c i) x = λ x. lines-linear s ok (ap isMatrix given) x i in
+      let want : (x : ℕ) → wants (s .target) x j ≡ onRow (getD rows j noRow) x = λ x. ap (λ (t : Target). wants t x j) given in (
+        λ right. row-known n (omega (arith, few)) (lineRow c i) (getD rows j noRow) (masks-small n (gateAt c) g i) (masks-fit n m rows fit j there)
+            (values-small 0 n (gateAt c) g i) (constants-fit n m rows fit j there) (λ x hx. sym (line x) ∙ right x hx ∙ want x),
+        λ e x hx. line x ∙ ap (λ (r : Row). onRow r x) e ∙ sym (want x),
+      )
+
+  -- and the verdict is not Wrong exactly when that is so of every output.
+  pub not-wrong-by-rows : ((p : Place) → reportOf s .verdict ≡ Wrong p → ⊥)
+      ↔ ((j : ℕ) → j < length (s .circuit .outs) → lineRow (s .circuit) (getD (s .circuit .outs) j 0) ≡ getD rows j noRow)
+  not-wrong-by-rows = (
+    λ no j h. right-by-rows j h .0 (λ x hx. never-wrong s (λ p w. no p (wrong-exactly s p .1 w)) x j hx h),
+    λ same p e. let w = wrong-exactly s p .0 e in w .wrong (right-by-rows (p .output) (w .named) .1 (same (p .output) (w .named)) (p .input) (w .inside)),
+  )
 
 -- What is present after any calls is such a state.
 pub present-sound : {b : Bench} {calls : List Call} → Runs emptyBench calls b → (s : State) → presentAfter calls ≡ present s → Sound s

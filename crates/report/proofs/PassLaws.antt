@@ -3,6 +3,7 @@
 use mathlib.Core.Path.{_≡_, refl, ap, _∙_, subst}
 use mathlib.Core.Bool.{Bool, true, false, cond, not}
 use Prim.Native.Nat.{ℕ, _≤_, _<_, _+_, _^_}
+use native.Mathlib.Decide.{decLt}
 use native.Mathlib.Omega.{arith}
 use lib.Dec.{ltb}
 use lib.ListN.{length}
@@ -81,6 +82,10 @@ module _ (s : State) where
       let e : firstOutput s x ≡ 0 + m = least-none (differs s x) m 0 (λ j l u. not-differs x j (h j (omega arith))) in
       le-ltb (firstOutput s x) m (omega arith)
 
+  -- no output differs anywhere
+  everywhere : size ≤ firstInput s → (x j : ℕ) → x < size → j < m → Same x j
+  everywhere l x j hx hj = all-same x j (least-before some size 0 x (omega arith) (omega arith)) hj
+
   -- ---- Pass
 
   pub pass-right : verdictOf s ≡ Pass → Right s
@@ -90,9 +95,8 @@ module _ (s : State) where
       let b = past (ltb (s .limits .gates) (length (s .circuit .gates))) _ _ (λ e. let z : _≡_ {A = ℕ} 0 1 = cc in omega arith) (a .1) in
       let c = past (ltb (s .limits .depth) (depthOf (s .circuit))) _ _ (λ e. let z : _≡_ {A = ℕ} 0 1 = cc in omega arith) (b .1) in
       let d = past (ltb (s .limits .andDepth) (andDepthOf (s .circuit))) _ _ (λ e. let z : _≡_ {A = ℕ} 0 1 = cc in omega arith) (c .1) in
-      let l = ltb-false (firstInput s) size (a .0) in
       record {
-        equal = λ x j hx hj. all-same x j (least-before some size 0 x (omega arith) (omega arith)) hj;
+        equal = everywhere (ltb-false (firstInput s) size (a .0));
         gates = ltb-false _ _ (b .0);
         depth = ltb-false _ _ (c .0);
         andDepth = ltb-false _ _ (d .0);
@@ -144,3 +148,10 @@ module _ (s : State) where
       let a = lt-ltb (firstInput s) size (omega (arith, f .inside)) in
       ap (λ (b : Bool). cond b (Wrong (record { input = firstInput s; output = firstOutput s (firstInput s) })) (byLimits s)) a
       ∙ (λ i. Wrong (record { input = e i; output = q i }))
+
+  -- where no place is the first wrong one, each output is right on every input value
+  pub never-wrong : ((p : Place) → FirstWrong s p → ⊥) → (x j : ℕ) → x < size → j < m → Same x j
+  never-wrong never = elim (decLt (firstInput s) size) [
+    | yes l ↦ absurd (never _ (first l))
+    | no l ↦ everywhere (omega (arith, l))
+  ]
