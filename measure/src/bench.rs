@@ -99,6 +99,27 @@ pub fn measure() {
     }
 }
 
+/// A linear circuit of 248 gates under the 32 rows that it computes: an open, and an edit of the last row.
+pub fn measure_rows() {
+    let c = circuit(&mut Rng::new(12), 8, 248, 32, true);
+    let (bytes, target) = (write(&c), target_met(&c, true));
+    let given = target.bytes();
+    let mut both = (Bench::new(), Native::new());
+    rows(
+        "open, 248 linear gates, 32 rows",
+        &mut both,
+        |ours| keep(ours.open_matrix(black_box(&bytes), &given, LOOSE)),
+        |theirs| keep(theirs.open(black_box(&bytes), target.clone(), NATIVE_LOOSE)),
+    );
+    let [mask, constant] = [given[31], given[63]].map(usize::from);
+    rows(
+        "entry, 248 linear gates, 32 rows",
+        &mut both,
+        |ours| keep(ours.change_entry(31, mask, constant)),
+        |theirs| keep(theirs.change_entry(31, mask as u64, constant as u64)),
+    );
+}
+
 /// Full lists to sweep: the slow one, in which no gate is equal to any of those before it, and one of which a third goes at least.
 fn to_sweep() -> [(&'static str, Circuit); 2] {
     let rng = &mut Rng::new(10);

@@ -51,6 +51,7 @@ fn head(unit: &str) {
 fn main() {
     head("µs");
     bench::measure();
+    bench::measure_rows();
     bench::measure_sweeps();
     bench::measure_appends();
     distance::measure();
