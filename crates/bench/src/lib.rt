@@ -11,7 +11,7 @@ mod examine; // examine.rt: what each line has, afresh or for the readers of one
 // What stands on the bench. Gate k is `kinds[k]`, `left[k]`, `right[k]`; a line's entry in `depths`, `and_depths` and
 // `values` has the line's number; `wanted` has for each output the values that the target wants. Zeros past the last.
 #[repr(C)]
-#[derive(Drop)]
+#[derive(Clone, Copy)]
 pub struct Bench {
     pub is_open: bool,
     pub is_matrix: bool,
@@ -33,14 +33,14 @@ pub struct Bench {
 }
 
 // Where a circuit is wrong: the smallest input value with a differing output, and the smallest such output there.
-#[derive(Drop)]
+#[derive(Clone, Copy)]
 pub struct Place {
     pub input: usize,
     pub output: usize,
 }
 
 // The first that applies.
-#[derive(Drop)]
+#[derive(Clone, Copy)]
 pub enum Verdict {
     Wrong(Place),
     OverGates,
@@ -49,7 +49,7 @@ pub enum Verdict {
     Pass,
 }
 
-#[derive(Drop)]
+#[derive(Clone, Copy)]
 pub struct Report {
     pub gates: usize,
     pub counts: Tally,
@@ -58,27 +58,27 @@ pub struct Report {
     pub verdict: Verdict,
 }
 
-#[derive(Drop)]
+#[derive(Clone, Copy)]
 pub enum Reported {
     Given(Report),
     NotGiven(Refusal),
 }
 
 // What an edit answers: whether it was accepted, the lines that it reworked in ascending order, and how many.
-#[derive(Drop)]
+#[derive(Clone, Copy)]
 pub struct Edit {
     pub answer: Answer,
     pub lines: [u16; LINES],
     pub count: usize,
 }
 
-#[derive(Drop)]
+#[derive(Clone, Copy)]
 pub struct Edited {
     pub bench: Bench,
     pub edit: Edit,
 }
 
-#[derive(Drop)]
+#[derive(Clone, Copy)]
 pub struct Opened {
     pub bench: Bench,
     pub answer: Answer,

@@ -11,7 +11,7 @@ use circuit::{GATES, LINES, OUTPUTS};
 use distance::table::{cost, take_in};
 
 // The lines so far, the rows' distances from them, and the operands of the gates taken.
-#[derive(Drop)]
+#[derive(Clone, Copy)]
 pub(crate) struct State {
     pub masks: [u32; LINES],
     pub depths: [u8; LINES],

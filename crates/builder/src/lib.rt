@@ -17,7 +17,7 @@ use stored::restore::writing_code;
 use stored::writer::write;
 
 // What a plan gives: the circuit, or an empty one beside the refusal.
-#[derive(Drop)]
+#[derive(Clone, Copy)]
 pub struct Planned {
     pub circuit: Circuit,
     pub answer: Answer,

@@ -12,7 +12,7 @@ use circuit::{Answer, Refusal};
 use distance::table::cost;
 
 // What a row's inputs come to: how many they are, and their sum of 2^arrival.
-#[derive(Drop)]
+#[derive(Clone, Copy)]
 pub(crate) struct RowSums {
     pub weight: usize,
     pub load: u32,

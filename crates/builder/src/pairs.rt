@@ -10,7 +10,7 @@ use circuit::depth::{deeper, greatest_of};
 use distance::table::cost;
 
 // The rows that are not made yet: the table's place, the room 2^limit, and the distance less one, of each.
-#[derive(Drop)]
+#[derive(Clone, Copy)]
 struct Goals {
     places: [usize; OUTPUTS],
     rooms: [u32; OUTPUTS],
@@ -20,7 +20,7 @@ struct Goals {
 }
 
 // The best pair so far, and the sums that it gives.
-#[derive(Drop)]
+#[derive(Clone, Copy)]
 struct Pick {
     total: u32,
     square: u32,
@@ -28,14 +28,14 @@ struct Pick {
     b: usize,
 }
 
-#[derive(Drop)]
+#[derive(Clone, Copy)]
 struct Pair {
     a: usize,
     b: usize,
 }
 
 // What a step is to do: nothing more, or the gate that reads lines a and b.
-#[derive(Drop)]
+#[derive(Clone, Copy)]
 pub(crate) struct Turn {
     pub over: bool,
     pub a: usize,

@@ -10,7 +10,7 @@ use circuit::{Answer, LINES, refusal_no, wide};
 use drawing::{BAD_NAME, BAD_TEXT, Drawn, NO_OUTPUTS};
 
 // The bench after an open, and 0 or why it was refused.
-#[derive(Drop)]
+#[derive(Clone, Copy)]
 pub struct Opened {
     pub bench: Bench,
     pub refusal: usize,
@@ -18,14 +18,14 @@ pub struct Opened {
 
 // What an edit answers: 0 or why it was refused, how many lines it reworked, and which, in ascending order.
 #[repr(C)]
-#[derive(Drop)]
+#[derive(Clone, Copy)]
 pub struct EditNumbers {
     pub refusal: usize,
     pub count: usize,
     pub lines: [u16; LINES],
 }
 
-#[derive(Drop)]
+#[derive(Clone, Copy)]
 pub struct Edited {
     pub bench: Bench,
     pub edit: EditNumbers,
@@ -34,7 +34,7 @@ pub struct Edited {
 // What a report answers: 0 or why it was refused; the counts and depths; the verdict, 0 pass, 1 wrong, 2 over the gate
 // limit, 3 over the depth limit, 4 over the AND depth limit; and where it is wrong.
 #[repr(C)]
-#[derive(Drop)]
+#[derive(Clone, Copy)]
 pub struct ReportNumbers {
     pub refusal: usize,
     pub gates: usize,
@@ -155,7 +155,7 @@ pub fn append_gate(bench: Bench, kind: usize, a: usize, b: usize) -> Edited
 }
 
 // A verdict in three numbers.
-#[derive(Drop)]
+#[derive(Clone, Copy)]
 struct VerdictNumbers {
     verdict: usize,
     input: usize,
@@ -254,7 +254,7 @@ pub fn store(bench: Bench, room: &mut [u8]) -> usize
 // What reading an equation file answers: 0 or why it was refused, how many bytes stand first in the room, and where the text or
 // a name is bad, as the number of bytes before that place.
 #[repr(C)]
-#[derive(Drop)]
+#[derive(Clone, Copy)]
 pub struct ReadingNumbers {
     pub refusal: usize,
     pub count: usize,

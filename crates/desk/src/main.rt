@@ -9,7 +9,7 @@ use talk::OUT;
 const ROOM: usize = 65538;
 
 // The bench after a line, and whether the answer was written.
-#[derive(Drop)]
+#[derive(Clone, Copy)]
 struct Answered {
     bench: Bench,
     is_written: bool,

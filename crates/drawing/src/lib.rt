@@ -22,7 +22,7 @@ pub const BAD_NAME: usize = 16;
 pub const NO_OUTPUTS: usize = 17;
 
 // Whether a file has a circuit: it was read, or why not, with the place.
-#[derive(Drop)]
+#[derive(Clone, Copy)]
 pub enum Verdict {
     Sound,
     Text(usize),
@@ -31,7 +31,7 @@ pub enum Verdict {
 }
 
 // The circuit of a file, and whether it has one.
-#[derive(Drop)]
+#[derive(Clone, Copy)]
 pub struct Sketch {
     pub circuit: Circuit,
     pub verdict: Verdict,
@@ -39,7 +39,7 @@ pub struct Sketch {
 
 // What reading a file gives: how many bytes stand first in the room; where the text or a name is bad; no outputs; or why the
 // circuit was not stored.
-#[derive(Drop)]
+#[derive(Clone, Copy)]
 pub enum Drawn {
     Stored(usize),
     BadText(usize),

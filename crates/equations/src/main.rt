@@ -23,7 +23,7 @@ const STORED: usize = 2048;
 const ROOM: usize = 8192;
 
 // Where a person finds a place: in which line and which column, both from 1.
-#[derive(Drop)]
+#[derive(Clone, Copy)]
 struct Spot {
     line: usize,
     column: usize,

@@ -19,7 +19,7 @@ pub const NESTING: usize = 32;
 pub const TOO_MANY: usize = GATES + 1;
 
 // A class of bytes: the space; the space and ~; letters and digits.
-#[derive(Drop)]
+#[derive(Clone, Copy)]
 pub enum Class {
     Blank,
     Tilde,
@@ -38,7 +38,7 @@ pub type Rows = [[u8; GATES]; 3];
 
 // What is known of the gates in the rows: how many there are; `high` is one more than the highest input that was read.
 // `fold`: what was read last is a binary operator's gate. `odd`: some ~ stood before anything else.
-#[derive(Drop)]
+#[derive(Clone, Copy)]
 pub struct Tip {
     pub count: usize,
     pub high: u8,
@@ -48,7 +48,7 @@ pub struct Tip {
 
 // Gates in the order in which they were made. An operand is an input's number, or 8 and a gate's number: how many inputs
 // there are is not known before the file's end. The rest is as in `Tip`.
-#[derive(Drop)]
+#[derive(Clone, Copy)]
 pub struct Gates {
     pub kinds: [u8; GATES],
     pub left: [u8; GATES],
@@ -60,7 +60,7 @@ pub struct Gates {
 }
 
 // What is known of a name: its line, or nothing.
-#[derive(Drop)]
+#[derive(Clone, Copy)]
 pub enum Found {
     Line(u8),
     Nothing,
@@ -68,7 +68,7 @@ pub enum Found {
 
 // What a level answers: where the text goes on and the formula's line; or the place of bad text; or the last byte of a
 // name that is not known.
-#[derive(Drop)]
+#[derive(Clone, Copy)]
 pub enum Out {
     Got(usize, u8),
     Bad(usize),
@@ -76,21 +76,21 @@ pub enum Out {
 }
 
 // What a level answers, and what is known of the gates in the rows after it.
-#[derive(Drop)]
+#[derive(Clone, Copy)]
 pub struct Answer {
     pub tip: Tip,
     pub out: Out,
 }
 
 // An answer and all its gates: what the contracts speak of.
-#[derive(Drop)]
+#[derive(Clone, Copy)]
 pub struct Read {
     pub gates: Gates,
     pub out: Out,
 }
 
 // After an operand: past the operator, with the line that was read before it; or the level ends.
-#[derive(Drop)]
+#[derive(Clone, Copy)]
 pub enum Next {
     On(usize, u8),
     Done,

@@ -12,7 +12,7 @@ use circuit::{LINES, Refusal, line_index, low16, wide};
 use distance::FoundNumbers;
 
 // The fewest gates, that there is no distance, or why the hint is refused.
-#[derive(Drop)]
+#[derive(Clone, Copy)]
 pub enum Answer {
     Gates(u8),
     Never,
@@ -20,7 +20,7 @@ pub enum Answer {
 }
 
 // An answer, and beside a distance the lines of the smallest set by their numbers in the circuit, ascending.
-#[derive(Drop)]
+#[derive(Clone, Copy)]
 pub struct Hinted {
     pub answer: Answer,
     pub lines: [u16; 8],
@@ -28,7 +28,7 @@ pub struct Hinted {
 }
 
 // The lines that a hint counts from: what each sums, its depth and its number in the circuit. Zeros past the last.
-#[derive(Drop)]
+#[derive(Clone, Copy)]
 struct Base {
     masks: [u8; LINES],
     depths: [u8; LINES],

@@ -9,14 +9,14 @@ mod words; // words.rt: one word of a line, as a number, a limit, bytes or the k
 mod calls; // calls.rt: a function for each call, over the words after the first
 
 // A word of hexadecimal digits stands from `from` to `to`; an empty part where the word is `-`.
-#[derive(Drop)]
+#[derive(Clone, Copy)]
 pub struct Part {
     pub from: usize,
     pub to: usize,
 }
 
 // `open HEX matrix HEX G D A` and `open HEX table HEX G D A`.
-#[derive(Drop)]
+#[derive(Clone, Copy)]
 pub struct Opening {
     pub bytes: Part,
     pub target: Part,
@@ -26,7 +26,7 @@ pub struct Opening {
 }
 
 // `gate K KIND A B`.
-#[derive(Drop)]
+#[derive(Clone, Copy)]
 pub struct GateEdit {
     pub k: usize,
     pub kind: usize,
@@ -35,14 +35,14 @@ pub struct GateEdit {
 }
 
 // `output J LINE`.
-#[derive(Drop)]
+#[derive(Clone, Copy)]
 pub struct OutputEdit {
     pub j: usize,
     pub line: usize,
 }
 
 // `entry I VALUE` or `entry I VALUE CONSTANT`; a constant left out is 0.
-#[derive(Drop)]
+#[derive(Clone, Copy)]
 pub struct EntryEdit {
     pub i: usize,
     pub value: usize,
@@ -50,7 +50,7 @@ pub struct EntryEdit {
 }
 
 // `limits G D A`.
-#[derive(Drop)]
+#[derive(Clone, Copy)]
 pub struct LimitsEdit {
     pub gates: u8,
     pub depth: u8,
@@ -58,7 +58,7 @@ pub struct LimitsEdit {
 }
 
 // `append KIND A B`.
-#[derive(Drop)]
+#[derive(Clone, Copy)]
 pub struct AppendEdit {
     pub kind: usize,
     pub a: usize,
@@ -66,7 +66,7 @@ pub struct AppendEdit {
 }
 
 // `build N ROWSHEX D ROOM`.
-#[derive(Drop)]
+#[derive(Clone, Copy)]
 pub struct BuildCall {
     pub n: usize,
     pub rows: Part,
@@ -75,7 +75,7 @@ pub struct BuildCall {
 }
 
 // `late N ARRIVALSHEX ROWSHEX LIMITSHEX ROOM`.
-#[derive(Drop)]
+#[derive(Clone, Copy)]
 pub struct LateCall {
     pub n: usize,
     pub arrivals: Part,
@@ -85,7 +85,7 @@ pub struct LateCall {
 }
 
 // `distance N MASKSHEX DEPTHSHEX T D`.
-#[derive(Drop)]
+#[derive(Clone, Copy)]
 pub struct DistanceCall {
     pub n: usize,
     pub masks: Part,
@@ -95,21 +95,21 @@ pub struct DistanceCall {
 }
 
 // `hint J D`: the row of the open matrix, and the depth.
-#[derive(Drop)]
+#[derive(Clone, Copy)]
 pub struct HintCall {
     pub row: usize,
     pub d: usize,
 }
 
 // `equations HEX ROOM`.
-#[derive(Drop)]
+#[derive(Clone, Copy)]
 pub struct EquationsCall {
     pub file: Part,
     pub room: usize,
 }
 
 // What a line calls for. A blank line or a note is Silent, a line that is no call Unreadable.
-#[derive(Drop)]
+#[derive(Clone, Copy)]
 pub enum Call {
     Silent,
     Unreadable,

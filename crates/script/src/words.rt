@@ -8,35 +8,35 @@ use crate::Part;
 use text::Number;
 
 // The rest of a line, from `at` on.
-#[derive(Drop)]
+#[derive(Clone, Copy)]
 pub(crate) struct Cursor {
     pub(crate) readable: bool,
     pub(crate) at: usize,
 }
 
 // A number, and the rest.
-#[derive(Drop)]
+#[derive(Clone, Copy)]
 pub(crate) struct Numbered {
     pub(crate) value: usize,
     pub(crate) rest: Cursor,
 }
 
 // A limit, and the rest.
-#[derive(Drop)]
+#[derive(Clone, Copy)]
 pub(crate) struct Limited {
     pub(crate) value: u8,
     pub(crate) rest: Cursor,
 }
 
 // The place of bytes, and the rest.
-#[derive(Drop)]
+#[derive(Clone, Copy)]
 pub(crate) struct Bytes {
     pub(crate) part: Part,
     pub(crate) rest: Cursor,
 }
 
 // The kind of a target, and the rest.
-#[derive(Drop)]
+#[derive(Clone, Copy)]
 pub(crate) struct Kind {
     pub(crate) is_matrix: bool,
     pub(crate) rest: Cursor,

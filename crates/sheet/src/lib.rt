@@ -12,7 +12,7 @@ use formula::text::{scan, sees};
 use formula::{Answer, Class, Found, Gates, LONGEST, NAMES, NESTING, Out, Rows, Tip};
 
 // The names that were set: the key of each, its line, and where it stands in the text; and the gates.
-#[derive(Drop)]
+#[derive(Clone, Copy)]
 pub struct Book {
     pub low: [u64; NAMES],
     pub high: [u64; NAMES],
@@ -23,21 +23,21 @@ pub struct Book {
 }
 
 // Why a text is refused: it is no file (15), or a name is not known or may not be set (16); with the place.
-#[derive(Drop)]
+#[derive(Clone, Copy)]
 pub enum Why {
     Text(usize),
     Name(usize),
 }
 
 // Where the text goes on, or why it is refused.
-#[derive(Drop)]
+#[derive(Clone, Copy)]
 pub enum Step {
     On(usize),
     No(Why),
 }
 
 // What is known of the gates in the rows after an assignment, the line of its name, and where the text goes on.
-#[derive(Drop)]
+#[derive(Clone, Copy)]
 pub struct Noted {
     pub tip: Tip,
     pub line: u8,
@@ -45,7 +45,7 @@ pub struct Noted {
 }
 
 // The same with all the gates: what the contracts speak of.
-#[derive(Drop)]
+#[derive(Clone, Copy)]
 pub struct Assigned {
     pub gates: Gates,
     pub line: u8,
@@ -53,7 +53,7 @@ pub struct Assigned {
 }
 
 // The names and gates of a file, and where it ends.
-#[derive(Drop)]
+#[derive(Clone, Copy)]
 pub struct Sheet {
     pub book: Book,
     pub step: Step,

@@ -6,7 +6,7 @@ pub mod writer; // writer.rt: a circuit to stored bytes in a lent room
 pub mod restore; // restore.rt: both in one call
 
 // The two bytes that a stored record begins with.
-#[derive(Drop)]
+#[derive(Clone, Copy)]
 pub(crate) struct Mark {
     pub first: u8,
     pub second: u8,
@@ -31,14 +31,14 @@ pub(crate) const OP: Mark = Mark {
 };
 
 // What reading gives: the circuit, or an empty one beside the refusal.
-#[derive(Drop)]
+#[derive(Clone, Copy)]
 pub struct Reading {
     pub circuit: Circuit,
     pub answer: Answer,
 }
 
 // What storing gives: how many bytes stand first in the room, or why none does.
-#[derive(Drop)]
+#[derive(Clone, Copy)]
 pub enum Writing {
     Written(usize),
     NotWritten(Refusal),

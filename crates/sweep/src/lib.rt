@@ -12,7 +12,7 @@ use circuit::rules::is_shape;
 use circuit::{Circuit, GATES, LINES, OUTPUTS, line_index, low16};
 
 // The gates kept, and the new line of each line.
-#[derive(Drop)]
+#[derive(Clone, Copy)]
 pub struct Merging {
     pub count: usize,
     pub kinds: [u8; GATES],

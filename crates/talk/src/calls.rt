@@ -57,14 +57,14 @@ pub(crate) fn tell_new(b: Bench, out: &mut [u8; OUT]) -> Told
 }
 
 // Where the first of two parts of a room ends, and where the second does.
-#[derive(Drop)]
+#[derive(Clone, Copy)]
 struct Ends {
     mid: usize,
     end: usize,
 }
 
 // Where the first two of three parts of a room end, and where the third does.
-#[derive(Drop)]
+#[derive(Clone, Copy)]
 struct Thirds {
     mid: usize,
     end: usize,

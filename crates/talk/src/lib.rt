@@ -12,7 +12,7 @@ mod show; // show.rt: the circuit on the screen
 mod calls; // calls.rt: a function for each call
 
 // The bench after a line, and how many bytes of the room are the answer.
-#[derive(Drop)]
+#[derive(Clone, Copy)]
 pub struct Told {
     pub bench: Bench,
     pub len: usize,

@@ -13,7 +13,7 @@ pub const CR: u8 = 13;
 pub const SPACE: u8 = 32;
 
 // What a word says as a decimal number: its value, or no number.
-#[derive(Drop)]
+#[derive(Clone, Copy)]
 pub enum Number {
     Value(u64),
     Not,
@@ -176,7 +176,7 @@ pub fn trim(line: &[u8]) -> usize
 }
 
 // A word stands from `from` to `to`.
-#[derive(Drop)]
+#[derive(Clone, Copy)]
 pub struct Word {
     pub from: usize,
     pub to: usize,
