@@ -1,0 +1,22 @@
+use mathlib.Core.List.{List}
+use mathlib.Core.Logic.{⊎_elim}
+use mathlib.Core.Path.{◌≡◌, refl, sym, ◌∙◌, subst}
+use Prim.Native.Nat.{ℕ, ◌+◌, ◌-◌, max}
+use native.Mathlib.Nat.{sub-zero}
+use native.Mathlib.Omega.{arith}
+use borrow.Author.Rules.{rules}
+use lib.ListN.{replicate}
+use Rattle.distance.specs.Base.{base_of}
+use Rattle.distance.specs.Distance.{gap_from, first_at}
+use Rattle.distance.specs.Table.{Below, Ones}
+use Rattle.distance.proofs.Sizes.{size_hit, size_miss, size_end}
+use Rattle.distance.proofs.Entries.{cost_is, cost_lt}
+use Rattle.distance.proofs.BySizes.{below_two, size_filled, size_there, ready_of}
+use Rattle.distance.proofs.Lines.{put-found, put-not, answer_found, answer_none}
+use Rattle.distance.proofs.by_sizes.Given as goal
+
+abbrev pub invariant-loop-g : goal.invariant-loop-g
+invariant-loop-g l = (gap_from l.n 0 l.t l.left (base_of l.masks l.depths) ≡ gap_from (l.n - l.g) l.g l.t l.left (base_of l.masks l.depths)) × (l.lines ≡ replicate 8 0) × Below l.h (base_of l.masks l.depths) (max l.g 2) l.left × Ones l.h (base_of l.masks l.depths)
+
+abbrev pub decreases-loop-g : goal.decreases-loop-g
+decreases-loop-g l = l.n - l.g

@@ -1,0 +1,13 @@
+use mathlib.Core.List.{List}
+use mathlib.Core.Path.{sym, subst}
+use Prim.Native.Nat.{ℕ, ◌-◌, ◌*◌}
+use native.Mathlib.Omega.{arith}
+use borrow.Author.Rules.{rules}
+use Rattle.distance.proofs.Entries.{Part, part_start, part_four, part_end}
+use Rattle.distance.proofs.table.take_into.Given as goal
+
+abbrev pub invariant-loop-q : goal.invariant-loop-q
+invariant-loop-q l = Part l.initial.h l.h l.m l.c (l.q * 4) (l.first * 4) (l.end * 4)
+
+abbrev pub decreases-loop-q : goal.decreases-loop-q
+decreases-loop-q l = l.q

@@ -1,0 +1,15 @@
+-- `text::put_spaced` meets its contract. Assumes nothing.
+use native.Mathlib.Omega.{arith}
+use borrow.Author.Rules.{rules}
+use Rattle.text.proofs.Numbers.{numbered_fits}
+use Rattle.text.proofs.Putting.{put_then, is_free, not_free, put_fits, put_short, put_free}
+use Rattle.text.proofs.put_spaced.Goals as goal
+
+pub returns-then-not-is_free : goal.returns-then-not-is_free
+returns-then-not-is_free c = put_short (not_free _ _ c.is_free.ensures c.if-not-is_free.true-raw)
+
+pub returns : goal.returns
+returns c = let a = c.args in
+    let short = numbered_fits 32 a.x (search rules) in
+    let room = is_free _ _ c.is_free.ensures c.if-not-is_free.false-raw in
+    put_fits room (omega (arith, short)) (put_then (omega arith) (put_free (omega arith) c.put-next.ensures) (put_free (omega (arith, short)) c.put_decimal.ensures))

@@ -1,0 +1,15 @@
+use borrow.Author.Rules.{rules}
+use native.Mathlib.Omega.{arith}
+use mathlib.Core.Path.{◌≡◌, refl, sym, ◌∙◌, ap}
+use Prim.Native.Nat.{ℕ, ◌+◌, ◌-◌, ◌≤◌, min}
+use mathlib.Core.List.{◌++◌}
+use lib.ListN.{length, drop, get_or, take, length-set, take-append-drop}
+use Rattle.text.proofs.Putting.{front_next, rest_next, front_done}
+use Rattle.text.proofs.to_front.Given as goal
+
+abbrev pub invariant-loop-i : goal.invariant-loop-i
+invariant-loop-i l = (l.i ≤ l.n) × (l.n ≡ min l.to (length l.initial.room) - l.from) × (l.from + l.n ≤ length l.initial.room) × (length l.room ≡ length l.initial.room)
+    × (take l.i l.room ≡ take l.i (drop l.from l.initial.room)) × (drop l.i l.room ≡ drop l.i l.initial.room)
+
+abbrev pub decreases-loop-i : goal.decreases-loop-i
+decreases-loop-i l = l.n - l.i
