@@ -23,7 +23,7 @@ loop-g-init c = let d = c.requires.fact_2.1.1.1 in
     (simp sub-zero, refl, below_two _ _ _ left c.ones-h.ensures, c.ones-h.ensures)
 
 pub next_size-requires : goal.next_size-requires
-next_size-requires c = (omega (arith, c.if-g-gt1.true), omega (arith, c.loop-g-test.true, c.requires.fact_2.1.1.0))
+next_size-requires c = record { fact_1 = omega (arith, c.if-g-gt1.true); fact_2 = omega (arith, c.loop-g-test.true, c.requires.fact_2.1.1.0) }
 
 -- what the array has before the search
 abbrev Has : Joined-g-gt1 → List ℕ → Type 0

@@ -12,7 +12,7 @@ loop-q-init c = part_start _ _ _ _ _
 
 pub relax-requires : goal.relax-requires
 relax-requires c = let p = c.requires in
-    (omega (arith, p.0, c.loop-q-test.true), omega (arith, p.1, c.loop-q.invariant.upto))
+    record { fact_1 = omega (arith, p.0, c.loop-q-test.true); fact_2 = omega (arith, p.1, c.loop-q.invariant.upto) }
 
 pub loop-q-preserved : goal.loop-q-preserved
 loop-q-preserved c = let a = c.args in
