@@ -1,7 +1,6 @@
 -- `stored::reader::check` meets its contract. Assumes nothing.
 use mathlib.Core.Path.{◌≡◌, ◌∙◌, sym}
 use lib.ListN.{get_or}
-use borrow.Author.Rules.{rules}
 use Rattle.stored.specs.Reading.{body_answer}
 use Rattle.stored.proofs.Accept.{too_short, no_mark, head_is}
 use Rattle.stored.proofs.reader.check.Goals as goal

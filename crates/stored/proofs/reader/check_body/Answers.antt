@@ -3,7 +3,6 @@ use native.Mathlib.Omega.{arith}
 use mathlib.Core.Path.{ap, ◌∙◌, sym}
 use Prim.Native.Nat.{◌+◌, ◌*◌}
 use lib.ListN.{drop}
-use borrow.Author.Rules.{rules}
 use Rattle.circuit.specs.declared.Answer.{Answer}
 use Rattle.circuit.specs.Rules.{and_then}
 use Rattle.circuit.proofs.Shapes.{shape_is}

@@ -1,10 +1,7 @@
-use borrow.Author.Rules.{rules}
-use native.Mathlib.Omega.{arith}
-use mathlib.Core.Path.{◌≡◌, refl, ◌∙◌, sym}
+use mathlib.Core.Path.{◌≡◌}
 use Prim.Native.Nat.{◌+◌, ◌-◌, ◌*◌, ◌≤◌}
 use lib.ListN.{drop}
 use Rattle.stored.specs.Reading.{answers, gate_here}
-use Rattle.stored.proofs.Records.{gate-at, answers_end, answers_stop, answers_next}
 use Rattle.stored.proofs.reader.check_gates.Given as goal
 
 abbrev pub invariant-loop-j : goal.invariant-loop-j

@@ -1,10 +1,7 @@
-use borrow.Author.Rules.{rules}
-use native.Mathlib.Omega.{arith}
-use mathlib.Core.Path.{◌≡◌, refl, ap, ◌∙◌, sym}
-use Prim.Native.Nat.{ℕ, ◌+◌, ◌-◌, ◌*◌, ◌≤◌}
+use mathlib.Core.Path.{◌≡◌}
+use Prim.Native.Nat.{◌+◌, ◌-◌, ◌*◌, ◌≤◌}
 use lib.ListN.{drop}
 use Rattle.stored.specs.Reading.{answers, out_here}
-use Rattle.stored.proofs.Records.{out_at, answers_end, answers_stop, answers_next}
 use Rattle.stored.proofs.reader.check_outputs.Given as goal
 
 abbrev pub invariant-loop-j : goal.invariant-loop-j

@@ -1,12 +1,6 @@
-use mathlib.Core.Path.{◌≡◌, refl, ap, ◌∙◌}
-use mathlib.Core.List.{◌++◌}
-use Prim.Native.Nat.{ℕ, ◌≤◌, ◌+◌, ◌*◌, ◌-◌}
-use native.Mathlib.Omega.{arith}
-use lib.ListN.{drop, replicate}
-use borrow.Author.Rules.{rules}
-use Rattle.circuit.specs.Sizes.{most_outputs}
-use Rattle.stored.specs.Stored.{records, out_in}
-use Rattle.stored.proofs.Accept.{fields, fields_none, fields_put, columns, held_is}
+use mathlib.Core.Path.{◌≡◌}
+use Prim.Native.Nat.{◌≤◌, ◌+◌, ◌*◌, ◌-◌}
+use Rattle.stored.proofs.Accept.{fields}
 use Rattle.stored.proofs.reader.fill.Given as goal
 
 abbrev pub invariant-loop-j : goal.invariant-loop-j

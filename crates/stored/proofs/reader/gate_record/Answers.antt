@@ -1,7 +1,6 @@
 -- `stored::reader::gate_record` meets its contract. Assumes nothing.
 use mathlib.Core.Path.{◌≡◌, ap, ◌∙◌, sym}
 use mathlib.Core.Bool.{Bool, cond}
-use borrow.Author.Rules.{rules}
 use Rattle.circuit.specs.declared.Answer.TheVariants.{Refused}
 use Rattle.circuit.specs.declared.Refusal.TheVariants.{Mark}
 use Rattle.circuit.specs.Rules.{gate_answer}

@@ -1,12 +1,9 @@
-use borrow.Author.Rules.{rules}
-use native.Mathlib.Omega.{arith}
-use mathlib.Core.Path.{◌≡◌, ap, ◌∙◌}
-use mathlib.Core.List.{List, ◌++◌}
-use Prim.Native.Nat.{ℕ, ◌+◌, ◌-◌, ◌*◌, ◌≤◌}
-use lib.ListN.{drop, set, replicate}
+use mathlib.Core.Path.{◌≡◌}
+use mathlib.Core.List.{◌++◌}
+use Prim.Native.Nat.{◌+◌, ◌-◌, ◌*◌, ◌≤◌}
+use lib.ListN.{drop, replicate}
 use Rattle.circuit.specs.Sizes.{most_outputs}
 use Rattle.stored.specs.Stored.{records, out_in}
-use Rattle.stored.proofs.Records.{byte_at, records_put, records_none}
 use Rattle.stored.proofs.reader.out_lines.Given as goal
 
 abbrev pub invariant-loop-j : goal.invariant-loop-j

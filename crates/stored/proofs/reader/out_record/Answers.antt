@@ -1,5 +1,4 @@
 -- `stored::reader::out_record` meets its contract. Assumes nothing.
-use borrow.Author.Rules.{rules}
 use mathlib.Core.Path.{ap, ◌∙◌, sym}
 use Rattle.circuit.specs.Rules.{out_answer}
 use Rattle.stored.specs.Reading.{out_record}

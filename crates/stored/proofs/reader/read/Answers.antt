@@ -1,6 +1,5 @@
 -- `stored::reader::read` meets its contract: a refusal is what the check found, and what was found whole is filled in. Assumes nothing.
 use mathlib.Core.Path.{ap, ◌∙◌, sym}
-use borrow.Author.Rules.{rules}
 use Rattle.circuit.specs.declared.Answer.{Answer}
 use Rattle.circuit.specs.declared.Answer.TheVariants.{Done, Refused}
 use Rattle.circuit.specs.declared.Circuit.{Circuit}

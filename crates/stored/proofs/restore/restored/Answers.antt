@@ -1,5 +1,4 @@
 -- `stored::restore::restored` meets its contract, from those of `read` and `write`. Assumes nothing.
-use borrow.Author.Rules.{rules}
 use Rattle.stored.proofs.Restoring.{refused, restored}
 use Rattle.stored.proofs.restore.restored.Goals as goal
 

@@ -1,7 +1,6 @@
 -- `stored::restore::writing_code` meets its contract. Assumes nothing.
 use mathlib.Core.Path.{◌∙◌, sym, ap}
 use Prim.Native.Nat.{ℕ, ◌*◌}
-use borrow.Author.Rules.{rules}
 use Rattle.stored.specs.Writing.{writing_code}
 use Rattle.stored.proofs.restore.writing_code.Goals as goal
 

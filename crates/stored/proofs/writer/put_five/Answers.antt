@@ -1,7 +1,6 @@
 -- `stored::writer::put_five` meets its contract. Assumes nothing.
 use native.Mathlib.Omega.{arith}
 use lib.ListN.{length-set}
-use borrow.Author.Rules.{rules}
 use Rattle.stored.proofs.Over.{five_over}
 use Rattle.stored.proofs.writer.put_five.Goals as goal
 

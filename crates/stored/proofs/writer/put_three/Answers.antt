@@ -1,7 +1,6 @@
 -- `stored::writer::put_three` meets its contract. Assumes nothing.
 use native.Mathlib.Omega.{arith}
 use lib.ListN.{length-set}
-use borrow.Author.Rules.{rules}
 use Rattle.stored.proofs.Over.{three_over}
 use Rattle.stored.proofs.writer.put_three.Goals as goal
 
