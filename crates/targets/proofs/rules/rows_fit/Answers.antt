@@ -26,14 +26,14 @@ tested c =
 pub returns-then-not-row_fits : goal.returns-then-not-row_fits
 returns-then-not-row_fits c = let a = c.args in
     let rows = rows_in a.n a.m a.bytes.now in
-    sym (all_stop no_row (row_is_sound a.n) rows c.loop-j.j (omega (arith, rows_many a.n a.m a.bytes.now, c.loop-j-test.true)) (tested c.before ∙ not-true _ c.if-not-row_fits.true-raw))
+    sym (all_stop no_row (row_is_sound a.n) rows c.loop-j.j (omega (arith, rows_many a.n a.m a.bytes.now, c.loop-j-test.true)) (tested (goal.at.returns-then-not-row_fits c).After-row_fits ∙ not-true _ c.if-not-row_fits.true-raw))
     ∙ c.loop-j.invariant.1
 
 pub loop-j-preserved : goal.loop-j-preserved
 loop-j-preserved c = let a = c.args in
     let rows = rows_in a.n a.m a.bytes.now in (
       search rules,
-      sym (all_next no_row (row_is_sound a.n) rows c.loop-j.j (omega (arith, rows_many a.n a.m a.bytes.now, c.loop-j-test.true)) (tested c.before ∙ not-false _ c.if-not-row_fits.false-raw))
+      sym (all_next no_row (row_is_sound a.n) rows c.loop-j.j (omega (arith, rows_many a.n a.m a.bytes.now, c.loop-j-test.true)) (tested (goal.at.loop-j-preserved c).After-row_fits ∙ not-false _ c.if-not-row_fits.false-raw))
           ∙ c.loop-j.invariant.1,
     )
 

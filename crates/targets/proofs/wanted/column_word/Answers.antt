@@ -12,14 +12,7 @@ use Rattle.targets.specs.Wanted.{packed}
 use Rattle.targets.proofs.Packing.{packed_before, packed_fits}
 use Rattle.targets.proofs.wanted.column_word.Goals as goal
 use Rattle.targets.proofs.wanted.column_word.Goals.{After-wide, In-loop-b}
-
--- bit j of the entries from one on
-abbrev bits : List ℕ → ℕ → ℕ → ℕ → ℕ
-bits table from j b = bit j (get_or table (from + b) 0)
-
--- the bits from b on, in a word
-abbrev tail : List ℕ → ℕ → ℕ → ℕ → ℕ
-tail table from j b = packed (λ (i : ℕ). bits table from j (b + i)) (64 - b)
+use Rattle.targets.proofs.wanted.column_word.Invariants.{bits, tail}
 
 -- one bit more before them, and the word that it makes fits
 record More (table : List ℕ) (from j w b : ℕ) : Type 0 where
@@ -39,7 +32,7 @@ pub loop-b-init : goal.loop-b-init
 loop-b-init c = (search rules, refl)
 
 pub overflow_add-w : goal.overflow_add-w
-overflow_add-w c = let m = (more c).ranges in omega arith
+overflow_add-w c = let m = (more (goal.at.overflow_add-w c).In-loop-b).fits in omega arith
 
 -- the bit of what was read
 read-bit : (c : After-wide) → let a = c.args in
@@ -47,10 +40,10 @@ read-bit : (c : After-wide) → let a = c.args in
 read-bit c = ap (bit c.args.j) c.wide.ensures.0
 
 pub overflow_add-w-in-loop-b : goal.overflow_add-w-in-loop-b
-overflow_add-w-in-loop-b c = let m = (more c.before.before.before).fits in let e = read-bit c in omega arith
+overflow_add-w-in-loop-b c = let m = (more (goal.at.overflow_add-w-in-loop-b c).In-loop-b).fits in let e = read-bit (goal.at.overflow_add-w-in-loop-b c).After-wide in omega arith
 
 pub loop-b-preserved : goal.loop-b-preserved
-loop-b-preserved c = (search rules, ap (λ (x : ℕ). c.loop-b.w + c.loop-b.w + x) (read-bit c) ∙ (more c.before.before.before).is)
+loop-b-preserved c = (search rules, ap (λ (x : ℕ). c.loop-b.w + c.loop-b.w + x) (read-bit (goal.at.loop-b-preserved c).After-wide) ∙ (more (goal.at.loop-b-preserved c).In-loop-b).is)
 
 pub returns : goal.returns
 returns c = let a = c.args in

@@ -18,7 +18,7 @@ pub loop-i-preserved : goal.loop-i-preserved
 loop-i-preserved c = let mask = c.args.mask in
     let i = c.loop-i.i in (
       search rules,
-      elim c.if-mask-i-eq1.branch [ then-mask-i-eq1 w ↦ w.3 ∙ w.2.ensures ∙ ap₂ (words_of Kind.XOR) c.loop-i.invariant.1 w.1.ensures ∙ mask_with mask i w.if-mask-i-eq1.true | else-mask-i-eq1 w ↦ w.1 ∙ c.loop-i.invariant.1 ∙ mask_without mask i w.if-mask-i-eq1.false ],
+      elim c.if-mask-i-eq1.branch [ then-mask-i-eq1 w ↦ w.w-is ∙ w.eval_gate-w.ensures ∙ ap₂ (words_of Kind.XOR) c.loop-i.invariant.1 w.input_words.ensures ∙ mask_with mask i w.if-mask-i-eq1.true | else-mask-i-eq1 w ↦ w.w-is ∙ c.loop-i.invariant.1 ∙ mask_without mask i w.if-mask-i-eq1.false ],
     )
 
 pub returns : goal.returns

@@ -16,17 +16,15 @@ use Rattle.targets.specs.Wanted.{wanted_words, wanted_of, wanted_in}
 use Rattle.targets.specs.Target.{target_by}
 use Rattle.targets.proofs.wanted.wanted_words.Goals as goal
 use Rattle.targets.proofs.wanted.wanted_words.Goals.{Joined-m-lt-OUTPUTS, else-m-lt-OUTPUTS, then-m-lt-OUTPUTS}
-
-abbrev want : Bool → List ℕ → ℕ → ℕ → Words
-want only bytes m = wanted_words (target_by only most_inputs m bytes)
+use Rattle.targets.proofs.wanted.wanted_words.Invariants.{want}
 
 -- how many outputs there are
 counted : (c : Joined-m-lt-OUTPUTS) → c.if-m-lt-OUTPUTS.count ≡ min c.args.m most_outputs
-counted c = elim c.if-m-lt-OUTPUTS.branch [ then-m-lt-OUTPUTS w ↦ omega (arith, w.if-m-lt-OUTPUTS.true, w.1) | else-m-lt-OUTPUTS w ↦ omega (arith, w.if-m-lt-OUTPUTS.false, w.1) ]
+counted c = elim c.if-m-lt-OUTPUTS.branch [ then-m-lt-OUTPUTS w ↦ omega (arith, w.if-m-lt-OUTPUTS.true, w.count-is) | else-m-lt-OUTPUTS w ↦ omega (arith, w.if-m-lt-OUTPUTS.false, w.count-is) ]
 
 pub loop-j-init : goal.loop-j-init
 unfolding upto
-loop-j-init c = (search rules, counted c, refl)
+loop-j-init c = (search rules, counted (goal.at.loop-j-init c).Joined-m-lt-OUTPUTS, refl)
 
 pub loop-j-preserved : goal.loop-j-preserved
 loop-j-preserved c = let a = c.args in

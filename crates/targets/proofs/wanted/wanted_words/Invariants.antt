@@ -15,6 +15,9 @@ use Rattle.targets.specs.Wanted.{wanted_words, wanted_of, wanted_in}
 use Rattle.targets.specs.Target.{target_by}
 use Rattle.targets.proofs.wanted.wanted_words.Given as goal
 
+abbrev pub want : Bool → List ℕ → ℕ → ℕ → Words
+want only bytes m = wanted_words (target_by only most_inputs m bytes)
+
 abbrev pub invariant-loop-j : goal.invariant-loop-j
 invariant-loop-j l = (l.j ≤ l.count) × (l.count ≡ min l.m most_outputs) × (l.wanted ≡ padded most_outputs no_words (upto (want l.only l.target l.count) l.j))
 
