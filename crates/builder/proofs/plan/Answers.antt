@@ -21,20 +21,20 @@ in-range : (c : Then-is_shape) → Shaped c.args.n (length c.args.rows.now) 0
 in-range c = shape_is _ _ _ (sym c.is_shape.ensures ∙ c.if-is_shape.true)
 
 pub slice_bounds-arrivals-end : goal.slice_bounds-arrivals-end
-slice_bounds-arrivals-end c = omega (arith, (in-range c.before).n_most, length-replicate {A = ℕ} most_inputs 0)
+slice_bounds-arrivals-end c = omega (arith, (in-range (goal.at.slice_bounds-arrivals-end c).Then-is_shape).n_most, length-replicate {A = ℕ} most_inputs 0)
 
 pub slice_bounds-plan_late-end : goal.slice_bounds-plan_late-end
-slice_bounds-plan_late-end c = sym (length-take-le _ _ (omega (arith, (in-range c.before.before).n_most, length-replicate {A = ℕ} most_inputs 0)))
+slice_bounds-plan_late-end c = sym (length-take-le _ _ (omega (arith, (in-range (goal.at.slice_bounds-plan_late-end c).Then-is_shape).n_most, length-replicate {A = ℕ} most_inputs 0)))
 
 pub slice_bounds-limits-end : goal.slice_bounds-limits-end
-slice_bounds-limits-end c = omega (arith, (in-range c.before.before).m_most, length-replicate most_outputs c.limit_of-limits.result)
+slice_bounds-limits-end c = omega (arith, (in-range (goal.at.slice_bounds-limits-end c).Then-is_shape).m_most, length-replicate most_outputs c.limit_of-limits.result)
 
 pub slice_bounds-plan_late-end-then-is_shape : goal.slice_bounds-plan_late-end-then-is_shape
-slice_bounds-plan_late-end-then-is_shape c = sym (length-take-le _ _ (omega (arith, (in-range c.before.before.before).m_most, length-replicate most_outputs c.limit_of-limits.result)))
+slice_bounds-plan_late-end-then-is_shape c = sym (length-take-le _ _ (omega (arith, (in-range (goal.at.slice_bounds-plan_late-end-then-is_shape c).Then-is_shape).m_most, length-replicate most_outputs c.limit_of-limits.result)))
 
 pub returns-then-is_shape : goal.returns-then-is_shape
 returns-then-is_shape c = let a = c.args in
-    let r = in-range c.before.before.before.before in
+    let r = in-range (goal.at.returns-then-is_shape c).Then-is_shape in
     let m = length a.rows.now in
     let limit = c.limit_of-limits in
     c.plan_late.ensures

@@ -12,7 +12,7 @@ loop-i-init c = (omega arith, sums_none _)
 
 pub take_input-requires : goal.take_input-requires
 take_input-requires c = let h = c.loop-i-test.true in
-    (omega (arith, h, c.requires.fact_1), (omega (arith, h, c.requires.fact_2.0), (c.requires.fact_2.1, c.loop-i.invariant.1)))
+    record { fact_1 = omega (arith, h, c.requires.fact_1); fact_2 = omega (arith, h, c.requires.fact_2); fact_3 = c.requires.fact_3; fact_4 = c.loop-i.invariant.1 }
 
 pub loop-i-preserved : goal.loop-i-preserved
 loop-i-preserved c = (search rules, c.take_input.ensures)

@@ -19,7 +19,7 @@ returns-then-t c = let a = c.args in
     grown_over (base a.start) a.rows.now a.limits.now l.s l.invariant.0 c.loop-s-test.true (sym c.if-t.true ∙ c.turn-t.ensures.over_is)
 
 pub add_gate-s-requires : goal.add_gate-s-requires
-add_gate-s-requires c = (c.loop-s.invariant.0.poised, (c.loop-s.invariant.1, (record { left_to_do = sym c.turn-t.ensures.over_is ∙ c.if-t.false; is = c.turn-t.ensures.pair c.if-t.false }, c.loop-s-test.true)))
+add_gate-s-requires c = record { fact_1 = c.loop-s.invariant.0.poised; fact_2 = c.loop-s.invariant.1; fact_3 = record { left_to_do = sym c.turn-t.ensures.over_is ∙ c.if-t.false; is = c.turn-t.ensures.pair c.if-t.false }; fact_4 = c.loop-s-test.true }
 
 pub loop-s-smaller : goal.loop-s-smaller
 loop-s-smaller c = omega (arith, c.add_gate-s.ensures.counted)

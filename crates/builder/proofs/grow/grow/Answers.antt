@@ -29,9 +29,9 @@ slice_bounds-all_steps-end c = let e : length c.widened-wide.result ≡ most_out
 
 pub all_steps-requires : goal.all_steps-requires
 all_steps-requires c = let a = c.args in
-    let e = sym (same c.before.before) in
+    let e = sym (same (goal.at.all_steps-requires c).After-widened-wide) in
     let t = tabled_all a.rows.now a.limits.now a.start c.requires.fact_1.poised a.h.now c.requires.fact_2 (λ i. (c.shared_slice_known-1.given i).fits) in
     record { fact_1 = subst (λ (l : List ℕ). SoFar (base a.start) l a.limits.now a.start) e c.requires.fact_1; fact_2 = subst (λ (l : List ℕ). Tabled l a.limits.now a.start a.h.now) e t }
 
 pub returns : goal.returns
-returns c = subst (λ (l : List ℕ). Grown (base c.args.start) (rows_of l c.args.limits.now) c.all_steps.result) (same c.before.before.before) c.all_steps.ensures
+returns c = subst (λ (l : List ℕ). Grown (base c.args.start) (rows_of l c.args.limits.now) c.all_steps.result) (same (goal.at.returns c).After-widened-wide) c.all_steps.ensures

@@ -21,7 +21,7 @@ pub bounds-limits-i : goal.bounds-limits-i
 bounds-limits-i c = omega (arith, c.loop-i-test.true, c.requires.limits_too)
 
 pub lower-requires : goal.lower-requires
-lower-requires c = (omega (arith, c.requires.near c.loop-i.i), (c.requires.cap, (c.requires.cheap, (c.requires.bytes c.loop-i.i, c.requires.byte))))
+lower-requires c = record { fact_1 = omega (arith, c.requires.near c.loop-i.i); fact_2 = c.requires.cap; fact_3 = c.requires.cheap; fact_4 = c.requires.bytes c.loop-i.i; fact_5 = c.requires.byte }
 
 pub bounds-next-i : goal.bounds-next-i
 bounds-next-i c = omega (arith, c.loop-i-test.true, c.requires.few)

@@ -30,7 +30,7 @@ loop-i-init c = refl
 
 pub sums_of-sums-requires : goal.sums_of-sums-requires
 sums_of-sums-requires c = let f = c.requires.fit in
-    (f.inputs, (f.arrivals, (f.early, f.below c.loop-i.i)))
+    record { fact_1 = f.inputs; fact_2 = f.arrivals; fact_3 = f.early; fact_4 = f.below c.loop-i.i }
 
 pub bounds-limits-i : goal.bounds-limits-i
 bounds-limits-i c = omega (arith, c.loop-i-test.true, c.requires.limits)

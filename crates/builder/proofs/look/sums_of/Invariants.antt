@@ -9,6 +9,7 @@ use Rattle.distance.specs.Base.{Shallow, weight, load}
 use Rattle.distance.specs.Table.{cost_at}
 use Rattle.distance.proofs.Weight.{weight_out, weight_in, load_out, load_in}
 use Rattle.builder.proofs.Refusals.{rest_small}
+use Rattle.builder.proofs.SumsOf.{Left}
 use Rattle.builder.proofs.look.sums_of.Given as goal
 
 abbrev pub invariant-loop-k : goal.invariant-loop-k

@@ -10,7 +10,7 @@ use Rattle.builder.proofs.Lists.{lines_length}
 use Rattle.builder.proofs.Choice.{mask_at, depth_at}
 use Rattle.builder.proofs.TwoLines.{from_line, from_pair, line_open, line_end, pair_hit, pair_miss, pair_end}
 use Rattle.builder.proofs.pairs.first_pair.Goals as goal
-use Rattle.builder.proofs.pairs.first_pair.Goals.{else-masks-i, then-masks-i}
+use Rattle.builder.proofs.pairs.first_pair.Goals.{else-masks-i, then-masks-i+else-deeper-limit}
 
 pub loop-i-init : goal.loop-i-init
 loop-i-init c = refl
@@ -22,23 +22,21 @@ loop-j-init c = let a = c.args in
 
 pub returns-then-deeper-limit : goal.returns-then-deeper-limit
 returns-then-deeper-limit c = let a = c.args in
-    let z = c.requires in
     let i = c.loop-i.i in
     let j = c.loop-j.j in
     c.loop-j.invariant
-    ∙ pair_hit (base_of a.masks.now a.depths.now) a.t a.limit i j (omega (arith, c.loop-j-test.true, lines_length a.masks.now a.depths.now z.0))
-    (mask_at a.masks.now a.depths.now i j z.0 ∙ c.if-masks-i.true)
-    (omega (arith, depth_at a.masks.now a.depths.now i j c.deeper.result z.0 z.1 c.deeper.ensures, c.if-deeper-limit.true))
+    ∙ pair_hit (base_of a.masks.now a.depths.now) a.t a.limit i j (omega (arith, c.loop-j-test.true, lines_length a.masks.now a.depths.now c.requires.fact_1))
+    (mask_at a.masks.now a.depths.now i j c.requires.fact_1 ∙ c.if-masks-i.true)
+    (omega (arith, depth_at a.masks.now a.depths.now i j c.deeper.result c.requires.fact_1 c.requires.fact_2 c.deeper.ensures, c.if-deeper-limit.true))
 
 pub loop-j-preserved : goal.loop-j-preserved
 loop-j-preserved c = let a = c.args in
-    let z = c.requires in
     let i = c.loop-i.i in
     let j = c.loop-j.j in
     c.loop-j.invariant
-    ∙ pair_miss (base_of a.masks.now a.depths.now) a.t a.limit i j (omega (arith, c.loop-j-test.true, lines_length a.masks.now a.depths.now z.0))
+    ∙ pair_miss (base_of a.masks.now a.depths.now) a.t a.limit i j (omega (arith, c.loop-j-test.true, lines_length a.masks.now a.depths.now c.requires.fact_1))
     (λ e d.
-    elim c.if-masks-i.branch [ then-masks-i w ↦ omega (arith, d, depth_at a.masks.now a.depths.now i j w.3.result z.0 z.1 w.3.ensures, w.4.left) | else-masks-i w ↦ w.if-masks-i.false (sym (mask_at a.masks.now a.depths.now i j z.0) ∙ e) ])
+    elim c.if-masks-i.branch [ then-masks-i+else-deeper-limit w ↦ omega (arith, d, depth_at a.masks.now a.depths.now i j w.deeper.result c.requires.fact_1 c.requires.fact_2 w.deeper.ensures, w.if-deeper-limit.false) | else-masks-i w ↦ w.if-masks-i.false (sym (mask_at a.masks.now a.depths.now i j c.requires.fact_1) ∙ e) ])
 
 pub loop-i-preserved : goal.loop-i-preserved
 loop-i-preserved c = let a = c.args in

@@ -12,7 +12,7 @@ pub bounds-h-place : goal.bounds-h-place
 bounds-h-place c = omega (arith, xor_lt 11 c.args.place c.args.m c.requires.fact_1 (omega arith))
 
 pub overflow_add-h : goal.overflow_add-h
-overflow_add-h c = omega (arith, c.requires.fact_2.0 (bit_xor c.args.place c.args.m))
+overflow_add-h c = omega (arith, c.requires.fact_2 (bit_xor c.args.place c.args.m))
 
 pub returns-then-h-place : goal.returns-then-h-place
 returns-then-h-place c = sym (misses_near c.args.h.now c.args.m c.args.c c.args.place c.args.room c.if-h-place.true)

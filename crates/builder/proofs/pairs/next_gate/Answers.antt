@@ -62,7 +62,7 @@ total c =
     passed_total (base_of a.masks.now a.depths.now) (rows_of a.rows.now a.limits.now) c.loop-i.i c.loop-i.sum (omega (arith, rows_length a.rows.now a.limits.now c.requires.paired, c.loop-i-test.false)) c.loop-i.invariant
 
 pub returns-then-sum-eq0 : goal.returns-then-sum-eq0
-returns-then-sum-eq0 c = record { over_is = sym (eq-eqb _ 0 (total c.before ∙ c.if-sum-eq0.true)); pair = λ o. absurd (let z : ◌≡◌ {A = ℕ} 0 1 = cc in omega arith) }
+returns-then-sum-eq0 c = record { over_is = sym (eq-eqb _ 0 (total (goal.at.returns-then-sum-eq0 c).After-loop-i ∙ c.if-sum-eq0.true)); pair = λ o. absurd (let z : ◌≡◌ {A = ℕ} 0 1 = cc in omega arith) }
 
 pub best_pair-pair-requires : goal.best_pair-pair-requires
 best_pair-pair-requires c = c.requires
@@ -70,7 +70,7 @@ best_pair-pair-requires c = c.requires
 pub returns : goal.returns
 returns c = let a = c.args in
     record {
-      over_is = sym (ne_eqb _ 0 (λ e. c.if-sum-eq0.false (sym (total c.before.before) ∙ e)));
+      over_is = sym (ne_eqb _ 0 (λ e. c.if-sum-eq0.false (sym (total (goal.at.returns c).After-loop-i) ∙ e)));
       pair = λ o.
           passed_best (base_of a.masks.now a.depths.now) (rows_of a.rows.now a.limits.now) c.loop-i.i c.loop-i.sum (omega (arith, rows_length a.rows.now a.limits.now c.requires.paired, c.loop-i-test.false)) c.loop-i.invariant
           ∙ c.best_pair-pair.ensures;

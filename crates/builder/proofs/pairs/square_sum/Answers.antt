@@ -14,7 +14,7 @@ pub loop-i-init : goal.loop-i-init
 loop-i-init c = squared_start _ _ _ _ c.requires.fact_1
 
 pub misses-requires : goal.misses-requires
-misses-requires c = (c.requires.fact_1.below c.loop-i.i, c.requires.fact_2)
+misses-requires c = record { fact_1 = c.requires.fact_1.below c.loop-i.i; fact_2 = c.requires.fact_2; fact_3 = c.requires.fact_3; fact_4 = c.requires.fact_4 }
 
 pub overflow_add-gap : goal.overflow_add-gap
 overflow_add-gap c = omega (arith, c.misses.ensures, gap_le (missesOf c.args.h.now c.args.m c.args.c) c.args.places.now c.args.rooms.now c.args.lows.now c.requires.fact_1 (misses-le c.args.h.now c.args.m c.args.c) c.loop-i.i)

@@ -55,7 +55,7 @@ pub bounds-rooms-r : goal.bounds-rooms-r
 bounds-rooms-r c = omega (arith, c.loop-r-test.true, c.requires.goals.places, c.requires.goals.rooms)
 
 pub misses-sum-requires : goal.misses-sum-requires
-misses-sum-requires c = (c.requires.goals.below c.loop-r.r, (c.requires.cap, (cost_le _ _ (omega (arith, in-depth c.before.before.before.before.before, c.requires.deep)) c.cost-c.ensures, xor_lt 8 _ _ (c.requires.bytes _) (c.requires.bytes _))))
+misses-sum-requires c = record { fact_1 = c.requires.goals.below c.loop-r.r; fact_2 = c.requires.cap; fact_3 = cost_le _ _ (omega (arith, in-depth (goal.at.misses-sum-requires c).Else-seen-m, c.requires.deep)) c.cost-c.ensures; fact_4 = xor_lt 8 _ _ (c.requires.bytes _) (c.requires.bytes _) }
 
 pub overflow_add-sum : goal.overflow_add-sum
 overflow_add-sum c = omega (arith, goal_small _ _ _ _ _ _ _ _ _ c.requires.goals c.loop-r-test.true c.misses-sum.ensures c.loop-r.invariant.2)
@@ -69,12 +69,12 @@ pub loop-r-preserved : goal.loop-r-preserved
 loop-r-preserved c = (c.loop-r.invariant.0, search rules, goal_more _ _ _ _ _ _ _ _ _ c.requires.goals c.loop-r-test.true c.misses-sum.ensures c.loop-r.invariant.2)
 
 pub square_sum-sq-requires : goal.square_sum-sq-requires
-square_sum-sq-requires c = (c.requires.goals, (c.requires.cap, (cost_le _ _ (omega (arith, in-depth c.before.before.before, c.requires.deep)) c.cost-c.ensures, xor_lt 8 _ _ (c.requires.bytes _) (c.requires.bytes _))))
+square_sum-sq-requires c = record { fact_1 = c.requires.goals; fact_2 = c.requires.cap; fact_3 = cost_le _ _ (omega (arith, in-depth (goal.at.square_sum-sq-requires c).Else-seen-m, c.requires.deep)) c.cost-c.ensures; fact_4 = xor_lt 8 _ _ (c.requires.bytes _) (c.requires.bytes _) }
 
 pub pairs-preserved : goal.pairs-preserved
 pairs-preserved c = let u = c.pairs in
     let r = c.loop-r in
-    elim c.if-improves.branch [ then-improves w ↦ along_taken _ _ _ _ _ _ _ _ _ _ _ _ _ _ _ _ _ _ _ _ c.requires u.invariant c.pairs-test.true c.deeper-depth.ensures c.if-seen-m.false _ c.cost-c.ensures _ r.invariant.0 _ _ _ c.loop-r-test.false r.invariant.2 c.square_sum-sq.ensures _ _ _ _ (sym c.improves.ensures ∙ w.if-improves.true) w.1 w.2 w.3 (w.4 ∙ r.invariant.0) | else-improves w ↦ along_left _ _ _ _ _ _ _ _ _ _ _ _ _ _ _ _ _ _ _ _ c.requires u.invariant c.pairs-test.true c.deeper-depth.ensures c.if-seen-m.false _ c.cost-c.ensures _ r.invariant.0 _ _ _ c.loop-r-test.false r.invariant.2 c.square_sum-sq.ensures _ _ _ _ (sym c.improves.ensures ∙ w.if-improves.false) w.1 w.2 w.3 w.4 ]
+    elim c.if-improves.branch [ then-improves w ↦ along_taken _ _ _ _ _ _ _ _ _ _ _ _ _ _ _ _ _ _ _ _ c.requires u.invariant c.pairs-test.true c.deeper-depth.ensures c.if-seen-m.false _ c.cost-c.ensures _ r.invariant.0 _ _ _ c.loop-r-test.false r.invariant.2 c.square_sum-sq.ensures _ _ _ _ (sym c.improves.ensures ∙ w.if-improves.true) w.total-is w.square-is w.a-is (w.b-is ∙ r.invariant.0) | else-improves w ↦ along_left _ _ _ _ _ _ _ _ _ _ _ _ _ _ _ _ _ _ _ _ c.requires u.invariant c.pairs-test.true c.deeper-depth.ensures c.if-seen-m.false _ c.cost-c.ensures _ r.invariant.0 _ _ _ c.loop-r-test.false r.invariant.2 c.square_sum-sq.ensures _ _ _ _ (sym c.improves.ensures ∙ w.if-improves.false) w.total-is w.square-is w.a-is w.b-is ]
 
 pub loop-i-preserved : goal.loop-i-preserved
 loop-i-preserved c = let a = c.args in

@@ -18,7 +18,7 @@ loop-i-init c = (search rules, sym (padded-none most_outputs 0))
 
 pub sums_of-sums-requires : goal.sums_of-sums-requires
 sums_of-sums-requires c = let f = c.requires in
-    (f.inputs, (f.arrivals, (f.early, f.below c.loop-i.i)))
+    record { fact_1 = f.inputs; fact_2 = f.arrivals; fact_3 = f.early; fact_4 = f.below c.loop-i.i }
 
 pub overflow_sub-gaps : goal.overflow_sub-gaps
 overflow_sub-gaps c = let i = c.loop-i.i in
