@@ -1,5 +1,4 @@
 -- `build` meets its contract: what was planned, written.
-use borrow.Author.Rules.{rules}
 use Rattle.builder.proofs.Written.{builds}
 use Rattle.builder.proofs.build.Goals as goal
 

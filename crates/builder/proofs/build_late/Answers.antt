@@ -1,5 +1,4 @@
 -- `build_late` meets its contract: what was planned, written.
-use borrow.Author.Rules.{rules}
 use Rattle.builder.proofs.Written.{builds_late}
 use Rattle.builder.proofs.build_late.Goals as goal
 

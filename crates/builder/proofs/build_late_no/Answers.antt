@@ -1,6 +1,5 @@
 -- `build_late_no` meets its contract: the number of `build_late`'s answer. Assumes nothing.
 use mathlib.Core.Path.{◌∙◌, ap}
-use borrow.Author.Rules.{rules}
 use Rattle.stored.specs.Writing.{writing_code}
 use Rattle.builder.proofs.build_late_no.Goals as goal
 

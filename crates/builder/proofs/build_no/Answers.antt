@@ -1,6 +1,5 @@
 -- `build_no` meets its contract: the number of `build`'s answer. Assumes nothing.
 use mathlib.Core.Path.{◌∙◌, ap}
-use borrow.Author.Rules.{rules}
 use Rattle.stored.specs.Writing.{writing_code}
 use Rattle.builder.proofs.build_no.Goals as goal
 

@@ -1,9 +1,8 @@
 -- `plan` meets its contract: it is the plan of arrivals 0 and one limit; out of range, there are no such lists to lend.
 use mathlib.Core.List.{List}
-use mathlib.Core.Path.{◌≡◌, sym, ap, ap₂, ◌∙◌}
+use mathlib.Core.Path.{sym, ap, ap₂, ◌∙◌}
 use Prim.Native.Nat.{ℕ}
 use native.Mathlib.Omega.{arith}
-use borrow.Author.Rules.{rules}
 use lib.ListN.{length, replicate, length-replicate}
 use lib.Seq.{length-take-le}
 use Rattle.circuit.specs.declared.Answer.TheVariants.{Refused}

@@ -1,6 +1,5 @@
 -- `plan_late` meets its contract: a refusal is what the look found, and nothing after it refuses.
 use mathlib.Core.Path.{sym, ap, ◌∙◌}
-use borrow.Author.Rules.{rules}
 use Rattle.circuit.specs.declared.Answer.{Answer}
 use Rattle.circuit.specs.declared.Answer.TheVariants.{Done, Refused}
 use Rattle.circuit.specs.declared.Circuit.{Circuit}

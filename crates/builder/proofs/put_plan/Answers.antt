@@ -1,5 +1,4 @@
 -- `put_plan` meets its contract: a refusal leaves the room as it was, and the circuit is written by the writer.
-use borrow.Author.Rules.{rules}
 use Rattle.builder.proofs.Written.{put_refused, put_done}
 use Rattle.builder.proofs.put_plan.Goals as goal
 

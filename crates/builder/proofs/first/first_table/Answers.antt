@@ -1,10 +1,10 @@
 -- `first_table` meets its contract: the entries of the masks passed are in, and all others far.
 use mathlib.Core.Path.{◌≡◌}
-use Prim.Native.Nat.{ℕ, ◌-◌, ◌/◌, ◌%◌, ◌^◌, ◌≤◌, ◌<◌}
+use Prim.Native.Nat.{ℕ, ◌/◌, ◌%◌, ◌^◌, ◌≤◌, ◌<◌}
 use native.Mathlib.Omega.{arith}
 use borrow.Author.Rules.{rules}
 use lib.ListN.{get_or}
-use Rattle.distance.proofs.FirstTable.{FirstPart, first_start, first_next, first_holds}
+use Rattle.distance.proofs.FirstTable.{first_start, first_next, first_holds}
 use Rattle.distance.proofs.Weight.{small_arriving}
 use Rattle.builder.specs.Kept.{mask_sum}
 use Rattle.builder.proofs.MaskSums.{byte, sum_most, sum-weight, sum-load}

@@ -1,6 +1,6 @@
 -- `mask_sums` meets its contract: an input more at each turn.
 use mathlib.Core.Path.{◌≡◌, subst}
-use Prim.Native.Nat.{ℕ, ◌-◌, ◌≤◌}
+use Prim.Native.Nat.{ℕ}
 use native.Mathlib.Omega.{arith}
 use borrow.Author.Rules.{rules}
 use Rattle.builder.specs.Kept.{MaskSums}

@@ -1,9 +1,5 @@
-use mathlib.Core.Path.{◌≡◌, subst}
-use Prim.Native.Nat.{ℕ, ◌-◌, ◌≤◌}
-use native.Mathlib.Omega.{arith}
-use borrow.Author.Rules.{rules}
+use Prim.Native.Nat.{◌-◌, ◌≤◌}
 use Rattle.builder.specs.Kept.{MaskSums}
-use Rattle.builder.proofs.MaskSums.{sums_none}
 use Rattle.builder.proofs.first.mask_sums.Given as goal
 
 abbrev pub invariant-loop-i : goal.invariant-loop-i

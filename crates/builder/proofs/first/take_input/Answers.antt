@@ -1,12 +1,12 @@
 -- `take_input` meets its contract: the masks without the input stay, and those with it are done one by one.
-use mathlib.Core.Path.{◌≡◌, ap}
-use Prim.Native.Nat.{ℕ, ◌+◌, ◌-◌, ◌≤◌, ◌<◌}
+use mathlib.Core.Path.{ap}
+use Prim.Native.Nat.{ℕ, ◌+◌, ◌≤◌}
 use native.Mathlib.Omega.{arith}
 use borrow.Author.Rules.{rules}
 use lib.ListN.{get_or}
 use Rattle.distance.proofs.Entries.{cost_is}
 use Rattle.builder.proofs.KeptUp.{cost_le}
-use Rattle.builder.proofs.MaskSums.{Half, half_start, half_more, half_end, sum_most, top_most}
+use Rattle.builder.proofs.MaskSums.{half_start, half_more, half_end, sum_most, top_most}
 use Rattle.builder.proofs.first.take_input.Goals as goal
 use Rattle.builder.proofs.first.take_input.Goals.{After-cost-c, In-loop-t}
 

@@ -3,7 +3,6 @@ use mathlib.Core.Path.{sym}
 use Prim.Native.Nat.{◌<◌}
 use native.Mathlib.Omega.{arith}
 use lib.Seq.{length-take-le}
-use borrow.Author.Rules.{rules}
 use Rattle.builder.proofs.Steps.{first_in, second_in, mask_byte, gaps_wide, lowering, next_wide, stepped}
 use Rattle.builder.proofs.grow.add_gate.Goals as goal
 use Rattle.builder.proofs.grow.add_gate.Goals.{Start}

@@ -1,9 +1,7 @@
 -- `all_steps` meets its contract: the state stands for the gates taken so far, and the table is that of its base.
 use mathlib.Core.Path.{sym, ◌∙◌}
-use Prim.Native.Nat.{◌-◌}
 use native.Mathlib.Omega.{arith}
-use borrow.Author.Rules.{rules}
-use Rattle.builder.specs.Kept.{base, SoFar, Tabled}
+use Rattle.builder.specs.Kept.{base}
 use Rattle.builder.proofs.Steps.{stands_next, grown_over, grown_end}
 use Rattle.builder.proofs.grow.all_steps.Goals as goal
 

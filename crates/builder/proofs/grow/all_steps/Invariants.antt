@@ -1,9 +1,5 @@
-use mathlib.Core.Path.{sym, ◌∙◌}
 use Prim.Native.Nat.{◌-◌}
-use native.Mathlib.Omega.{arith}
-use borrow.Author.Rules.{rules}
 use Rattle.builder.specs.Kept.{base, SoFar, Tabled}
-use Rattle.builder.proofs.Steps.{stands_next, grown_over, grown_end}
 use Rattle.builder.proofs.grow.all_steps.Given as goal
 
 abbrev pub invariant-loop-s : goal.invariant-loop-s

@@ -1,7 +1,6 @@
 -- `lower` meets its contract: a row that is made stays made, and the look-up tells of another.
 use Prim.Native.Nat.{◌-◌, ◌*◌, ◌+◌}
 use native.Mathlib.Omega.{arith}
-use borrow.Author.Rules.{rules}
 use Rattle.builder.specs.Kept.{misses as missesOf}
 use Rattle.builder.proofs.Lookup.{misses-le}
 use Rattle.builder.proofs.Goals.{next_made, next_goal}

@@ -1,10 +1,9 @@
 -- `lowered` meets its contract: the array begins with the distances made so far.
-use mathlib.Core.Path.{◌≡◌, sym, ap, ◌∙◌}
-use Prim.Native.Nat.{ℕ, ◌-◌, ◌≤◌}
+use mathlib.Core.Path.{sym, ap, ◌∙◌}
+use Prim.Native.Nat.{ℕ}
 use native.Mathlib.Omega.{arith}
 use borrow.Author.Rules.{rules}
-use lib.ListN.{length, take, set}
-use Rattle.circuit.specs.Lines.{padded}
+use lib.ListN.{set}
 use Rattle.circuit.specs.Sizes.{most_outputs}
 use Rattle.circuit.proofs.Padding.{padded-none, padded_next, padded-all}
 use Rattle.builder.specs.Kept.{misses as missesOf, next_gaps}

@@ -2,7 +2,6 @@
 use mathlib.Core.Path.{sym}
 use native.Mathlib.Omega.{arith}
 use lib.Seq.{length-take-le}
-use borrow.Author.Rules.{rules}
 use Rattle.builder.specs.Kept.{base}
 use Rattle.builder.proofs.Steps.{choosing, gaps_wide}
 use Rattle.builder.proofs.grow.turn.Goals as goal

@@ -1,11 +1,10 @@
 -- `widened` meets its contract: the array begins with the rows taken so far.
 use mathlib.Core.List.{List}
-use mathlib.Core.Path.{◌≡◌, refl, sym, ap, ◌∙◌}
-use Prim.Native.Nat.{ℕ, ◌-◌, ◌≤◌}
+use mathlib.Core.Path.{refl, sym, ap, ◌∙◌}
+use Prim.Native.Nat.{ℕ}
 use native.Mathlib.Omega.{arith}
 use borrow.Author.Rules.{rules}
-use lib.ListN.{length, get_or, take, set}
-use Rattle.circuit.specs.Lines.{padded}
+use lib.ListN.{get_or, set}
 use Rattle.circuit.specs.Sizes.{most_outputs}
 use Rattle.circuit.proofs.Padding.{padded-none, padded_next, padded-all}
 use Rattle.builder.proofs.grow.widened.Goals as goal

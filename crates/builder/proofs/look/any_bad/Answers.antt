@@ -1,11 +1,6 @@
 -- `any_bad` meets its contract: no row that was passed is bad.
-use mathlib.Core.Path.{◌≡◌, refl, sym, ◌∙◌}
-use mathlib.Core.List.{map}
-use Prim.Native.Nat.{◌-◌}
+use mathlib.Core.Path.{refl, sym, ◌∙◌}
 use native.Mathlib.Omega.{arith}
-use borrow.Author.Rules.{rules}
-use lib.ListN.{drop}
-use Rattle.circuit.specs.Lines.{any_of}
 use Rattle.builder.specs.Call.{bad_row}
 use Rattle.builder.proofs.Refusals.{any_hit, any_miss, any_end, bad_none, bad_high, bad_not}
 use Rattle.builder.proofs.look.any_bad.Goals as goal

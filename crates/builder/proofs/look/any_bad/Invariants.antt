@@ -1,12 +1,9 @@
-use mathlib.Core.Path.{◌≡◌, refl, sym, ◌∙◌}
+use mathlib.Core.Path.{◌≡◌}
 use mathlib.Core.List.{map}
 use Prim.Native.Nat.{◌-◌}
-use native.Mathlib.Omega.{arith}
-use borrow.Author.Rules.{rules}
 use lib.ListN.{drop}
 use Rattle.circuit.specs.Lines.{any_of}
 use Rattle.builder.specs.Call.{bad_row}
-use Rattle.builder.proofs.Refusals.{any_hit, any_miss, any_end, bad_none, bad_high, bad_not}
 use Rattle.builder.proofs.look.any_bad.Given as goal
 
 abbrev pub invariant-loop-i : goal.invariant-loop-i

@@ -1,14 +1,9 @@
 -- `any_deep` meets its contract: no depth that was passed is over 15.
-use mathlib.Core.List.{map}
-use mathlib.Core.Path.{◌≡◌, refl, sym, ◌∙◌}
-use Prim.Native.Nat.{◌-◌}
+use mathlib.Core.Path.{refl, sym, ◌∙◌}
 use native.Mathlib.Omega.{arith}
-use borrow.Author.Rules.{rules}
 use borrow.Author.Tests.{lt-ltb, le-ltb}
 use lib.Dec.{ltb}
-use lib.ListN.{drop, get_or}
-use Rattle.circuit.specs.Lines.{any_of}
-use Rattle.builder.specs.Late.{any_deep}
+use lib.ListN.{get_or}
 use Rattle.builder.proofs.Refusals.{any_hit, any_miss, any_end}
 use Rattle.builder.proofs.look.any_deep.Goals as goal
 

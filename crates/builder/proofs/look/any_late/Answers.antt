@@ -1,14 +1,12 @@
 -- `any_late` meets its contract: no row that was passed is too late.
 use mathlib.Core.Bool.{Bool}
-use mathlib.Core.List.{List, map}
+use mathlib.Core.List.{List}
 use mathlib.Core.Path.{◌≡◌, refl, sym, ap, ◌∙◌}
-use Prim.Native.Nat.{ℕ, ◌-◌, ◌^◌, ◌≤◌, ◌<◌, min}
+use Prim.Native.Nat.{ℕ, ◌^◌, min}
 use native.Mathlib.Omega.{arith}
-use borrow.Author.Rules.{rules}
 use borrow.Author.Tests.{lt-ltb, le-ltb}
 use lib.Dec.{ltb}
-use lib.ListN.{length, drop, get_or}
-use Rattle.circuit.specs.Lines.{any_of}
+use lib.ListN.{length, get_or}
 use Rattle.distance.specs.Base.{Shallow, load}
 use Rattle.distance.specs.Table.{cost_at}
 use Rattle.builder.specs.Rule.{row, rows_of}

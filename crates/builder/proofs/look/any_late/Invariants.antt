@@ -1,19 +1,10 @@
-use mathlib.Core.Bool.{Bool}
-use mathlib.Core.List.{List, map}
-use mathlib.Core.Path.{◌≡◌, refl, sym, ap, ◌∙◌}
-use Prim.Native.Nat.{ℕ, ◌-◌, ◌^◌, ◌≤◌, ◌<◌, min}
-use native.Mathlib.Omega.{arith}
-use borrow.Author.Rules.{rules}
-use borrow.Author.Tests.{lt-ltb, le-ltb}
-use lib.Dec.{ltb}
-use lib.ListN.{length, drop, get_or}
+use mathlib.Core.List.{map}
+use mathlib.Core.Path.{◌≡◌}
+use Prim.Native.Nat.{◌-◌}
+use lib.ListN.{drop}
 use Rattle.circuit.specs.Lines.{any_of}
-use Rattle.distance.specs.Base.{Shallow, load}
-use Rattle.distance.specs.Table.{cost_at}
-use Rattle.builder.specs.Rule.{row, rows_of}
+use Rattle.builder.specs.Rule.{rows_of}
 use Rattle.builder.specs.Late.{too_late}
-use Rattle.builder.proofs.Lists.{rows_length, rows_at}
-use Rattle.builder.proofs.Refusals.{any_hit, any_miss, any_end}
 use Rattle.builder.proofs.look.any_late.Given as goal
 
 abbrev pub invariant-loop-i : goal.invariant-loop-i

@@ -4,7 +4,6 @@ use Prim.Native.Nat.{◌^◌, ◌≤◌}
 use native.Mathlib.Nat.{one-mul}
 use native.Mathlib.Omega.{arith}
 use lib.Pow.{pow_mono, shl_exact}
-use borrow.Author.Rules.{rules}
 use Rattle.builder.proofs.look.power.Goals as goal
 
 pub returns : goal.returns

@@ -1,16 +1,10 @@
 -- `sums_of` meets its contract: what the inputs passed come to, and what the digits that are left come to.
-use mathlib.Core.Path.{◌≡◌, sym, ap, ◌∙◌, subst}
-use mathlib.Core.List.{List}
-use Prim.Native.Nat.{ℕ, ◌+◌, ◌-◌, ◌*◌, ◌^◌, ◌≤◌, ◌<◌, min}
+use mathlib.Core.Path.{◌≡◌, ap}
+use Prim.Native.Nat.{ℕ}
 use native.Mathlib.Omega.{arith}
 use borrow.Author.Rules.{rules}
-use lib.ListN.{get_or}
-use lib.Pow.{pow_mono}
-use Rattle.distance.specs.Base.{Shallow, weight, load}
-use Rattle.distance.specs.Table.{cost_at}
-use Rattle.distance.proofs.Weight.{weight_out, weight_in, load_out, load_in}
-use Rattle.builder.proofs.Refusals.{rest_small}
-use Rattle.builder.proofs.SumsOf.{Left, next-out, cost-most, next-in}
+use Rattle.distance.specs.Base.{weight, load}
+use Rattle.builder.proofs.SumsOf.{next-out, cost-most, next-in}
 use Rattle.builder.proofs.look.sums_of.Goals as goal
 
 pub loop-k-init : goal.loop-k-init

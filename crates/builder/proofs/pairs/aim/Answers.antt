@@ -1,10 +1,8 @@
 -- `aim` meets its contract: the goals so far are those of the rows looked at.
-use mathlib.Core.Logic.{⊎_elim}
 use Prim.Native.Nat.{◌-◌}
 use native.Mathlib.Omega.{arith}
-use borrow.Author.Rules.{rules}
 use lib.ListN.{get_or}
-use Rattle.builder.proofs.Goals.{Aiming, aiming_start, aiming_made, aiming_goal, aiming_end, aiming_eq}
+use Rattle.builder.proofs.Goals.{aiming_start, aiming_made, aiming_goal, aiming_end, aiming_eq}
 use Rattle.builder.proofs.pairs.aim.Goals as goal
 use Rattle.builder.proofs.pairs.aim.Goals.{else-gap-ne0, then-gap-ne0}
 

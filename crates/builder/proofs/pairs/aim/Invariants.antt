@@ -1,9 +1,5 @@
-use mathlib.Core.Logic.{⊎_elim}
 use Prim.Native.Nat.{◌-◌}
-use native.Mathlib.Omega.{arith}
-use borrow.Author.Rules.{rules}
-use lib.ListN.{get_or}
-use Rattle.builder.proofs.Goals.{Aiming, aiming_start, aiming_made, aiming_goal, aiming_end, aiming_eq}
+use Rattle.builder.proofs.Goals.{Aiming}
 use Rattle.builder.proofs.pairs.aim.Given as goal
 
 abbrev pub invariant-loop-i : goal.invariant-loop-i

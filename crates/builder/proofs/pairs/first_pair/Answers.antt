@@ -1,14 +1,10 @@
 -- `first_pair` meets its contract: the first pair from the start is the first pair from here.
-use mathlib.Core.Logic.{⊎_elim}
-use mathlib.Core.Path.{◌≡◌, refl, sym, ◌∙◌}
-use Prim.Native.Nat.{◌-◌}
+use mathlib.Core.Path.{refl, sym, ◌∙◌}
 use native.Mathlib.Omega.{arith}
-use borrow.Author.Rules.{rules}
 use Rattle.distance.specs.Base.{base_of}
-use Rattle.builder.specs.Rule.{row, first_pair}
 use Rattle.builder.proofs.Lists.{lines_length}
 use Rattle.builder.proofs.Choice.{mask_at, depth_at}
-use Rattle.builder.proofs.TwoLines.{from_line, from_pair, line_open, line_end, pair_hit, pair_miss, pair_end}
+use Rattle.builder.proofs.TwoLines.{line_open, line_end, pair_hit, pair_miss, pair_end}
 use Rattle.builder.proofs.pairs.first_pair.Goals as goal
 use Rattle.builder.proofs.pairs.first_pair.Goals.{else-masks-i, then-masks-i+else-deeper-limit}
 

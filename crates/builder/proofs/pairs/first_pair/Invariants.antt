@@ -1,13 +1,8 @@
-use mathlib.Core.Logic.{⊎_elim}
-use mathlib.Core.Path.{◌≡◌, refl, sym, ◌∙◌}
+use mathlib.Core.Path.{◌≡◌}
 use Prim.Native.Nat.{◌-◌}
-use native.Mathlib.Omega.{arith}
-use borrow.Author.Rules.{rules}
 use Rattle.distance.specs.Base.{base_of}
 use Rattle.builder.specs.Rule.{row, first_pair}
-use Rattle.builder.proofs.Lists.{lines_length}
-use Rattle.builder.proofs.Choice.{mask_at, depth_at}
-use Rattle.builder.proofs.TwoLines.{from_line, from_pair, line_open, line_end, pair_hit, pair_miss, pair_end}
+use Rattle.builder.proofs.TwoLines.{from_line, from_pair}
 use Rattle.builder.proofs.pairs.first_pair.Given as goal
 
 abbrev pub invariant-loop-j : goal.invariant-loop-j

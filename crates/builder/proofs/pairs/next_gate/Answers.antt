@@ -1,14 +1,13 @@
 -- `next_gate` meets its contract: the rows that were passed are not one gate away.
 use mathlib.Core.Path.{◌≡◌, sym, ◌∙◌}
-use Prim.Native.Nat.{ℕ, ◌-◌}
+use Prim.Native.Nat.{ℕ}
 use native.Mathlib.Omega.{arith}
-use borrow.Author.Rules.{rules}
 use borrow.Author.Tests.{eq-eqb, ne_eqb}
 use lib.ListN.{get_or}
 use Rattle.distance.specs.Base.{base_of}
 use Rattle.builder.specs.Rule.{rows_of}
 use Rattle.builder.proofs.Lists.{rows_length}
-use Rattle.builder.proofs.Choice.{Passed, passed_start, passed_hit, passed_some, passed_more, passed_total, passed_best}
+use Rattle.builder.proofs.Choice.{passed_start, passed_hit, passed_some, passed_more, passed_total, passed_best}
 use Rattle.builder.proofs.Weighed.{gaps_length, gap_at, gap_small}
 use Rattle.builder.proofs.pairs.next_gate.Goals as goal
 use Rattle.builder.proofs.pairs.next_gate.Goals.{After-loop-i}

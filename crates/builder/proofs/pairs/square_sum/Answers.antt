@@ -1,9 +1,8 @@
 -- `square_sum` meets its contract: what is summed, and the squares of the goals that are left.
 use mathlib.Core.Path.{sym, subst}
-use Prim.Native.Nat.{ℕ, ◌+◌, ◌-◌, ◌*◌, ◌≤◌}
+use Prim.Native.Nat.{ℕ, ◌+◌, ◌*◌, ◌≤◌}
 use native.Mathlib.Nat.{mul-le-mul}
 use native.Mathlib.Omega.{arith}
-use borrow.Author.Rules.{rules}
 use lib.ListN.{get_or}
 use Rattle.builder.specs.Kept.{misses as missesOf}
 use Rattle.builder.proofs.Lookup.{misses-le}

@@ -1,12 +1,6 @@
-use mathlib.Core.Path.{sym, subst}
-use Prim.Native.Nat.{ℕ, ◌+◌, ◌-◌, ◌*◌, ◌≤◌}
-use native.Mathlib.Nat.{mul-le-mul}
-use native.Mathlib.Omega.{arith}
-use borrow.Author.Rules.{rules}
-use lib.ListN.{get_or}
+use Prim.Native.Nat.{◌-◌}
 use Rattle.builder.specs.Kept.{misses as missesOf}
-use Rattle.builder.proofs.Lookup.{misses-le}
-use Rattle.builder.proofs.Goals.{Squared, squared_start, squared_more, squared_end, gap_le}
+use Rattle.builder.proofs.Goals.{Squared}
 use Rattle.builder.proofs.pairs.square_sum.Given as goal
 
 abbrev pub invariant-loop-i : goal.invariant-loop-i

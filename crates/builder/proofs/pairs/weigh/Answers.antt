@@ -1,7 +1,6 @@
 -- `weigh` meets its contract: the best pair from the start is the best pair from here, with the best so far.
-use mathlib.Core.Logic.{⊎_elim}
-use mathlib.Core.Path.{◌≡◌, refl, sym, ◌∙◌, subst}
-use Prim.Native.Nat.{◌-◌, ◌≤◌}
+use mathlib.Core.Path.{refl, sym, ◌∙◌, subst}
+use Prim.Native.Nat.{◌≤◌}
 use native.Mathlib.Nat.{sub-zero}
 use native.Mathlib.Omega.{arith}
 use borrow.Author.Rules.{rules, Fits-under}
@@ -9,13 +8,13 @@ use mir.Syntax.{w64}
 use lib.Bits.{xor_lt}
 use lib.ListN.{length}
 use Rattle.distance.specs.Base.{base_of, xor}
-use Rattle.builder.specs.Rule.{best, start, all_pairs}
-use Rattle.builder.specs.Kept.{misses as missesOf, look_up, goals_with}
+use Rattle.builder.specs.Rule.{best}
+use Rattle.builder.specs.Kept.{look_up, goals_with}
 use Rattle.builder.proofs.KeptUp.{cost_le}
 use Rattle.builder.proofs.Lists.{lines_length}
 use Rattle.builder.proofs.Goals.{Missed, missed-start}
 use Rattle.builder.proofs.Choice.{along_end, pairs_more, pairs_end}
-use Rattle.builder.proofs.Passing.{goal_more, goal_small, Seen, seen_start, Along, along_passed, within, along_over, along_taken, along_left}
+use Rattle.builder.proofs.Passing.{goal_more, goal_small, seen_start, along_passed, within, along_over, along_taken, along_left}
 use Rattle.builder.proofs.pairs.weigh.Goals as goal
 use Rattle.builder.proofs.pairs.weigh.Goals.{Else-seen-m, else-improves, then-improves}
 

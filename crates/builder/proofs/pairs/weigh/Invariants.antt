@@ -1,20 +1,10 @@
-use mathlib.Core.Logic.{⊎_elim}
-use mathlib.Core.Path.{◌≡◌, refl, sym, ◌∙◌, subst}
+use mathlib.Core.Path.{◌≡◌}
 use Prim.Native.Nat.{◌-◌, ◌≤◌}
-use native.Mathlib.Nat.{sub-zero}
-use native.Mathlib.Omega.{arith}
-use borrow.Author.Rules.{rules, Fits-under}
-use mir.Syntax.{w64}
-use lib.Bits.{xor_lt}
-use lib.ListN.{length}
 use Rattle.distance.specs.Base.{base_of, xor}
 use Rattle.builder.specs.Rule.{best, start, all_pairs}
 use Rattle.builder.specs.Kept.{misses as missesOf, look_up, goals_with}
-use Rattle.builder.proofs.KeptUp.{cost_le}
-use Rattle.builder.proofs.Lists.{lines_length}
-use Rattle.builder.proofs.Goals.{Missed, missed-start}
-use Rattle.builder.proofs.Choice.{along_end, pairs_more, pairs_end}
-use Rattle.builder.proofs.Passing.{goal_more, goal_small, Seen, seen_start, Along, along_passed, within, along_over, along_taken, along_left}
+use Rattle.builder.proofs.Goals.{Missed}
+use Rattle.builder.proofs.Passing.{Seen, Along}
 use Rattle.builder.proofs.pairs.weigh.Given as goal
 
 abbrev pub invariant-loop-r : goal.invariant-loop-r

@@ -1,6 +1,5 @@
 -- `begin` meets its contract: the parts as they are made.
 use native.Mathlib.Omega.{arith}
-use borrow.Author.Rules.{rules}
 use Rattle.builder.proofs.program.begin.Goals as goal
 
 pub first_depths-depths-requires : goal.first_depths-depths-requires

@@ -1,11 +1,9 @@
 -- `first_depths` meets its contract: what was passed stands first, and 0 past it.
 use mathlib.Core.List.{List}
-use mathlib.Core.Path.{◌≡◌, refl, sym, ap, ◌∙◌}
-use Prim.Native.Nat.{◌-◌, ◌≤◌}
+use mathlib.Core.Path.{refl, sym, ap, ◌∙◌}
 use native.Mathlib.Omega.{arith}
 use borrow.Author.Rules.{rules}
-use lib.ListN.{length, get_or, take, set}
-use Rattle.circuit.specs.Lines.{padded}
+use lib.ListN.{get_or, set}
 use Rattle.circuit.specs.Sizes.{most_lines}
 use Rattle.circuit.proofs.Padding.{padded-none, padded_next, padded-all}
 use Rattle.builder.proofs.program.first_depths.Goals as goal

@@ -1,11 +1,10 @@
 -- `first_gaps` meets its contract: a row that is not 0 has a weight of 1 or more.
 use mathlib.Core.List.{List, map}
 use mathlib.Core.Path.{◌≡◌, sym, ap, ◌∙◌}
-use Prim.Native.Nat.{ℕ, ◌-◌, ◌≤◌}
+use Prim.Native.Nat.{ℕ, ◌-◌}
 use native.Mathlib.Omega.{arith}
 use borrow.Author.Rules.{rules}
-use lib.ListN.{length, get_or, take, set, length-map}
-use Rattle.circuit.specs.Lines.{padded}
+use lib.ListN.{get_or, set, length-map}
 use Rattle.circuit.specs.Sizes.{most_outputs}
 use Rattle.circuit.proofs.Padding.{padded-none, padded_next, padded-all}
 use Rattle.circuit.proofs.Lists.{map_at}

@@ -1,15 +1,10 @@
-use mathlib.Core.List.{List, map}
-use mathlib.Core.Path.{◌≡◌, sym, ap, ◌∙◌}
+use mathlib.Core.List.{map}
+use mathlib.Core.Path.{◌≡◌}
 use Prim.Native.Nat.{ℕ, ◌-◌, ◌≤◌}
-use native.Mathlib.Omega.{arith}
-use borrow.Author.Rules.{rules}
-use lib.ListN.{length, get_or, take, set, length-map}
+use lib.ListN.{length, take}
 use Rattle.circuit.specs.Lines.{padded}
 use Rattle.circuit.specs.Sizes.{most_outputs}
-use Rattle.circuit.proofs.Padding.{padded-none, padded_next, padded-all}
-use Rattle.circuit.proofs.Lists.{map_at}
 use Rattle.distance.specs.Base.{weight}
-use Rattle.distance.proofs.Weight.{no_weight, weight-le}
 use Rattle.builder.proofs.program.first_gaps.Given as goal
 
 abbrev pub invariant-loop-i : goal.invariant-loop-i

@@ -1,12 +1,7 @@
 -- `lowest` meets its contract: the lowest line is the lowest from here.
-use mathlib.Core.Logic.{⊎_elim}
-use mathlib.Core.Path.{◌≡◌, refl, sym, ◌∙◌}
-use Prim.Native.Nat.{◌-◌}
+use mathlib.Core.Path.{refl, sym, ◌∙◌}
 use native.Mathlib.Omega.{arith}
-use borrow.Author.Rules.{rules}
-use lib.ListN.{drop}
-use Rattle.distance.specs.Base.{base_of}
-use Rattle.builder.specs.Rule.{row, lowest, lowest_from}
+use Rattle.builder.specs.Rule.{row}
 use Rattle.builder.proofs.Steps.{low_hit, low_other, low_deep, low_end}
 use Rattle.builder.proofs.program.lowest.Goals as goal
 use Rattle.builder.proofs.program.lowest.Goals.{else-masks-i, then-masks-i+else-depths-i}

@@ -1,12 +1,8 @@
-use mathlib.Core.Logic.{⊎_elim}
-use mathlib.Core.Path.{◌≡◌, refl, sym, ◌∙◌}
+use mathlib.Core.Path.{◌≡◌}
 use Prim.Native.Nat.{◌-◌}
-use native.Mathlib.Omega.{arith}
-use borrow.Author.Rules.{rules}
 use lib.ListN.{drop}
 use Rattle.distance.specs.Base.{base_of}
 use Rattle.builder.specs.Rule.{row, lowest, lowest_from}
-use Rattle.builder.proofs.Steps.{low_hit, low_other, low_deep, low_end}
 use Rattle.builder.proofs.program.lowest.Given as goal
 
 abbrev pub invariant-loop-i : goal.invariant-loop-i

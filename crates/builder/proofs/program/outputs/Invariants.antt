@@ -1,15 +1,11 @@
-use mathlib.Core.List.{List, map}
-use mathlib.Core.Path.{◌≡◌, sym, ap, ◌∙◌}
-use Prim.Native.Nat.{ℕ, ◌-◌, ◌≤◌}
-use native.Mathlib.Omega.{arith}
-use borrow.Author.Rules.{rules}
-use lib.ListN.{length, get_or, take, set}
+use mathlib.Core.List.{map}
+use mathlib.Core.Path.{◌≡◌}
+use Prim.Native.Nat.{◌-◌, ◌≤◌}
+use lib.ListN.{length, take}
 use Rattle.circuit.specs.Lines.{padded}
 use Rattle.circuit.specs.Sizes.{most_outputs}
-use Rattle.circuit.proofs.Padding.{padded-none, padded_next, padded-all}
 use Rattle.distance.specs.Base.{base_of}
-use Rattle.builder.specs.Rule.{row, rows_of, lowest}
-use Rattle.builder.proofs.Steps.{lowest_byte, outs_at, outs_length}
+use Rattle.builder.specs.Rule.{rows_of, lowest}
 use Rattle.builder.proofs.program.outputs.Given as goal
 
 abbrev pub invariant-loop-i : goal.invariant-loop-i

@@ -1,9 +1,9 @@
 -- `program` meets its contract: the state that begins stands, and what has grown is the circuit.
 use mathlib.Core.List.{List}
-use mathlib.Core.Path.{◌≡◌, sym, ap, ◌∙◌, subst}
+use mathlib.Core.Path.{◌≡◌, sym, ◌∙◌, subst}
 use native.Mathlib.Omega.{arith}
 use borrow.Author.Rules.{rules}
-use lib.ListN.{length, take}
+use lib.ListN.{length}
 use lib.Seq.{length-take-le}
 use Rattle.circuit.specs.Sizes.{most_lines}
 use Rattle.distance.specs.Base.{Line}
