@@ -18,11 +18,11 @@ loop-i-init c = (search rules, search rules, sym (padded-none {A = ℕ} most_lin
 
 pub loop-i-preserved : goal.loop-i-preserved
 loop-i-preserved c = (
-      search rules,
-      search rules,
-      ap (λ (l : List ℕ). set l c.loop-i.i c.low16.result) c.loop-i.invariant.2
-          ∙ upto_put most_lines 0 (λ (k : ℕ). k) c.loop-i.i c.low16.result (c.low16.ensures ∙ mod-eq_of_lt (omega arith)) (omega arith),
-    )
+  search rules,
+  search rules,
+  ap (λ (l : List ℕ). set l c.loop-i.i c.low16.result) c.loop-i.invariant.2
+      ∙ upto_put most_lines 0 (λ (k : ℕ). k) c.loop-i.i c.low16.result (c.low16.ensures ∙ mod-eq_of_lt (omega arith)) (omega arith),
+)
 
 pub returns : goal.returns
 returns c = let e : c.loop-i.i ≡ c.args.n = omega arith in

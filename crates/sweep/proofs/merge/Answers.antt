@@ -9,6 +9,7 @@ use Rattle.circuit.specs.Sizes.{most_inputs, most_gates}
 use Rattle.circuit.specs.Structs.{gate_of}
 use Rattle.sweep.proofs.Holding.{Merged, merged_start, merged_count, merged_dropped, put_is, put_at, merged_kept, merged_moved, merged_end}
 use Rattle.sweep.proofs.merge.Goals as goal
+use Rattle.sweep.proofs.merge.Goals.{then-live-line, else-live-line}
 
 pub loop-k-init : goal.loop-k-init
 loop-k-init c = let a = c.args in
@@ -23,15 +24,18 @@ loop-k-preserved c = let a = c.args in
     let t = c.loop-k.invariant.5 in
     let f = c.if-live-line in
     let next : Merged C live (k + 1) f.keys f.kinds f.left f.right f.new f.count =
-    ⊎-elim (λ w. let x = w.3.result in
-    let b = w.6.result in
-    let p = gate (gate_of C k).kind (get_or new x 0) b in
-    let is = put_is C live k t x w.5.result b w.3.ensures.0 w.5.ensures.0 w.6.ensures in
-    let at = put_at C live (omega arith) (omega arith) k (omega arith) t p is w.7.result w.9.result w.7.ensures w.9.ensures.0 in
-    merged_moved C live (k + 1) w.14 w.15 w.16 w.17 w.18 w.19
-    (merged_kept C live k (omega arith) (omega arith) t w.0.taken p is w.7.result w.9.result w.10.result w.11.result w.13.result
-    w.12.result w.7.ensures at w.10.ensures w.11.ensures w.12.ensures w.13.ensures))
-    (λ w. merged_moved C live (k + 1) w.1 w.2 w.3 w.4 w.5 w.6 (merged_dropped C live k (omega arith) t w.0.left)) f.branch in
+    elim f.branch [
+      | then-live-line w ↦
+          let x = w.line_index-x.result in
+          let b = w.second_line-b.result in
+          let p = gate (gate_of C k).kind (get_or new x 0) b in
+          let is = put_is C live k t x w.line_index-y.result b w.line_index-x.ensures.0 w.line_index-y.ensures.0 w.second_line-b.ensures in
+          let at = put_at C live (omega arith) (omega arith) k (omega arith) t p is w.key_of-key.result w.find_key-at.result w.key_of-key.ensures w.find_key-at.ensures.0 in
+          merged_moved C live (k + 1) w.keys-is w.kinds-is w.left-is w.right-is w.new-is w.count-is
+          (merged_kept C live k (omega arith) (omega arith) t w.if-live-line.true p is w.key_of-key.result w.find_key-at.result w.kept_at.result w.kept_at-then-live-line.result w.low16.result
+          w.greater-count.result w.key_of-key.ensures at w.kept_at.ensures w.kept_at-then-live-line.ensures w.greater-count.ensures w.low16.ensures)
+      | else-live-line w ↦ merged_moved C live (k + 1) w.keys-is w.kinds-is w.left-is w.right-is w.new-is w.count-is (merged_dropped C live k (omega arith) t w.if-live-line.false)
+    ] in
     (search rules, search rules, search rules, search rules, merged_count C live next, next)
 
 pub returns : goal.returns

@@ -16,10 +16,10 @@ returns-then-in_eight c = (search rules, c.loop-i.invariant.2)
 
 pub loop-i-preserved : goal.loop-i-preserved
 loop-i-preserved c = let a = c.args in (
-      search rules,
-      search rules,
-      misses_on a.key (λ (j : ℕ). get_or a.keys.now j 0) 0 c.loop-i.i 8 c.loop-i.invariant.2 (λ k l m. c.in_eight.ensures c.if-in_eight.false k (omega arith) (omega arith)),
-    )
+  search rules,
+  search rules,
+  misses_on a.key (λ (j : ℕ). get_or a.keys.now j 0) 0 c.loop-i.i 8 c.loop-i.invariant.2 (λ k l m. c.in_eight.ensures c.if-in_eight.false k (omega arith) (omega arith)),
+)
 
 pub returns : goal.returns
 returns c = (search rules, c.loop-i.invariant.2)

@@ -18,11 +18,11 @@ loop-i-init c = (search rules, search rules, sym (padded-none {A = ℕ} most_out
 
 pub loop-i-preserved : goal.loop-i-preserved
 loop-i-preserved c = let a = c.args in (
-      search rules,
-      search rules,
-      ap (λ (l : List ℕ). set l c.loop-i.i (get_or a.new c.line_index-line.result 0)) c.loop-i.invariant.2
-          ∙ upto_put most_outputs 0 (λ (k : ℕ). get_or a.new (line_in (get_or a.old k 0)) 0) c.loop-i.i _ (ap (λ (x : ℕ). get_or a.new x 0) c.line_index-line.ensures.0) (omega arith),
-    )
+  search rules,
+  search rules,
+  ap (λ (l : List ℕ). set l c.loop-i.i (get_or a.new c.line_index-line.result 0)) c.loop-i.invariant.2
+      ∙ upto_put most_outputs 0 (λ (k : ℕ). get_or a.new (line_in (get_or a.old k 0)) 0) c.loop-i.i _ (ap (λ (x : ℕ). get_or a.new x 0) c.line_index-line.ensures.0) (omega arith),
+)
 
 pub returns : goal.returns
 returns c = let a = c.args in
