@@ -1,11 +1,9 @@
 -- `sweep::find_key` meets its contract. The invariant: what is left to search has the place. Assumes nothing.
-use mathlib.Core.Path.{◌≡◌}
-use Prim.Native.Nat.{ℕ, ◌+◌, ◌-◌, ◌≤◌}
+use Prim.Native.Nat.{ℕ}
 use native.Mathlib.Omega.{arith}
 use borrow.Author.Rules.{rules}
 use lib.ListN.{get_or}
-use Rattle.circuit.specs.Sizes.{most_gates}
-use Rattle.sweep.proofs.Finding.{first_from, find_hit, find_miss, find_end, find_past}
+use Rattle.sweep.proofs.Finding.{find_hit, find_miss, find_end, find_past}
 use Rattle.sweep.proofs.find_key.Goals as goal
 
 pub loop-i-init : goal.loop-i-init

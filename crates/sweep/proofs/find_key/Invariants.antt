@@ -1,10 +1,8 @@
 use mathlib.Core.Path.{◌≡◌}
 use Prim.Native.Nat.{ℕ, ◌+◌, ◌-◌, ◌≤◌}
-use native.Mathlib.Omega.{arith}
-use borrow.Author.Rules.{rules}
 use lib.ListN.{get_or}
 use Rattle.circuit.specs.Sizes.{most_gates}
-use Rattle.sweep.proofs.Finding.{first_from, find_hit, find_miss, find_end, find_past}
+use Rattle.sweep.proofs.Finding.{first_from}
 use Rattle.sweep.proofs.find_key.Given as goal
 
 abbrev pub invariant-loop-i : goal.invariant-loop-i

@@ -1,5 +1,4 @@
 -- `sweep::in_eight` meets its contract. Assumes nothing.
-use borrow.Author.Rules.{rules}
 use Prim.Native.Nat.{ℕ}
 use lib.ListN.{get_or}
 use Rattle.circuit.proofs.LineLaws.{or-false}

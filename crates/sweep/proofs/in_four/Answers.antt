@@ -1,5 +1,4 @@
 -- `sweep::in_four` meets its contract. Assumes nothing.
-use borrow.Author.Rules.{rules}
 use Prim.Native.Nat.{ℕ}
 use lib.ListN.{get_or}
 use Rattle.sweep.proofs.Finding.{misses_four}

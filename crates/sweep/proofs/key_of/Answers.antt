@@ -1,6 +1,5 @@
 -- `sweep::key_of` meets its contract. Assumes nothing.
 use native.Mathlib.Omega.{arith}
-use borrow.Author.Rules.{rules}
 use Rattle.sweep.specs.Parts.{key_of}
 use Rattle.sweep.proofs.key_of.Goals as goal
 

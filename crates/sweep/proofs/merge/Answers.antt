@@ -1,11 +1,9 @@
 -- `sweep::merge` meets its contract. The invariant: the arrays hold the gates kept so far, their keys, and the new lines. Assumes nothing.
-use mathlib.Core.Logic.{⊎_elim}
-use Prim.Native.Nat.{◌+◌, ◌-◌, ◌≤◌}
+use Prim.Native.Nat.{◌+◌}
 use native.Mathlib.Omega.{arith}
 use borrow.Author.Rules.{rules}
 use lib.ListN.{get_or}
 use Rattle.circuit.specs.Lines.{gate}
-use Rattle.circuit.specs.Sizes.{most_inputs, most_gates}
 use Rattle.circuit.specs.Structs.{gate_of}
 use Rattle.sweep.proofs.Holding.{Merged, merged_start, merged_count, merged_dropped, put_is, put_at, merged_kept, merged_moved, merged_end}
 use Rattle.sweep.proofs.merge.Goals as goal

@@ -1,13 +1,12 @@
 -- `sweep::named` meets its contract. The invariant: the marks are the lines that the first i outputs name. Assumes nothing.
 use mathlib.Core.Path.{◌≡◌, ap, sym, ◌∙◌}
-use Prim.Native.Nat.{ℕ, ◌-◌, ◌≤◌}
+use Prim.Native.Nat.{ℕ}
 use native.Mathlib.Omega.{arith}
 use mathlib.Core.Bool.{Bool, true}
 use mathlib.Core.List.{List}
 use lib.ListN.{set}
 use borrow.Author.Rules.{rules}
 use Rattle.circuit.specs.Lines.{upto}
-use Rattle.circuit.specs.Sizes.{most_outputs}
 use Rattle.circuit.specs.Structs.{out_of}
 use Rattle.circuit.proofs.Upto.{upto-suc}
 use Rattle.sweep.specs.Parts.{marked}

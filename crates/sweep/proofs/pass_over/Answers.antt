@@ -1,10 +1,8 @@
 -- `sweep::pass_over` meets its contract. The invariant: no key so far is the one that is sought. Assumes nothing.
 use borrow.Author.Rules.{rules}
-use Prim.Native.Nat.{ℕ, ◌-◌, ◌≤◌}
+use Prim.Native.Nat.{ℕ}
 use native.Mathlib.Omega.{arith}
 use lib.ListN.{get_or}
-use Rattle.circuit.specs.Sizes.{most_gates}
-use Rattle.sweep.specs.Parts.{Misses}
 use Rattle.sweep.proofs.Finding.{misses_on}
 use Rattle.sweep.proofs.pass_over.Goals as goal
 

@@ -1,10 +1,7 @@
-use borrow.Author.Rules.{rules}
 use Prim.Native.Nat.{ℕ, ◌-◌, ◌≤◌}
-use native.Mathlib.Omega.{arith}
 use lib.ListN.{get_or}
 use Rattle.circuit.specs.Sizes.{most_gates}
 use Rattle.sweep.specs.Parts.{Misses}
-use Rattle.sweep.proofs.Finding.{misses_on}
 use Rattle.sweep.proofs.pass_over.Given as goal
 
 abbrev pub invariant-loop-i : goal.invariant-loop-i

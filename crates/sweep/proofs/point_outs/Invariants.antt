@@ -1,14 +1,9 @@
-use borrow.Author.Rules.{rules}
-use mathlib.Core.Path.{◌≡◌, ap, sym, ◌∙◌}
-use mathlib.Core.List.{List}
+use mathlib.Core.Path.{◌≡◌}
 use Prim.Native.Nat.{ℕ, ◌-◌, ◌≤◌}
-use native.Mathlib.Omega.{arith}
-use lib.ListN.{set, get_or}
+use lib.ListN.{get_or}
 use Rattle.circuit.specs.Lines.{upto, padded}
 use Rattle.circuit.specs.Sizes.{most_outputs}
 use Rattle.circuit.specs.Structs.{line_in}
-use Rattle.circuit.proofs.Padding.{padded-none}
-use Rattle.circuit.proofs.Upto.{upto_put}
 use Rattle.sweep.proofs.point_outs.Given as goal
 
 abbrev pub invariant-loop-i : goal.invariant-loop-i

@@ -2,7 +2,6 @@
 use mathlib.Core.Path.{sym, ◌∙◌}
 use Rattle.circuit.proofs.Shapes.{shape_is}
 use Rattle.sweep.proofs.Holding.{swept_is, not-swept}
-use borrow.Author.Rules.{rules}
 use Rattle.sweep.proofs.sweep.Goals as goal
 
 pub used_lines-live-requires : goal.used_lines-live-requires

@@ -2,10 +2,9 @@
 use mathlib.Core.Path.{◌≡◌, refl, ap, ◌∙◌}
 use mathlib.Core.Bool.{false}
 use lib.ListN.{get_or}
-use Prim.Native.Nat.{ℕ, suc, ◌+◌, ◌-◌, ◌≤◌}
+use Prim.Native.Nat.{ℕ, suc, ◌+◌, ◌-◌}
 use native.Mathlib.Omega.{arith}
 use borrow.Author.Rules.{rules}
-use Rattle.circuit.specs.Sizes.{most_inputs, most_gates}
 use Rattle.circuit.specs.Structs.{line_in}
 use Rattle.circuit.proofs.Operands.{second_line}
 use Rattle.sweep.specs.Parts.{marked}

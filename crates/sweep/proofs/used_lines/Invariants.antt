@@ -1,14 +1,8 @@
-use mathlib.Core.Path.{◌≡◌, refl, ap, ◌∙◌}
-use mathlib.Core.Bool.{false}
-use lib.ListN.{get_or}
-use Prim.Native.Nat.{ℕ, suc, ◌+◌, ◌-◌, ◌≤◌}
-use native.Mathlib.Omega.{arith}
-use borrow.Author.Rules.{rules}
+use mathlib.Core.Path.{◌≡◌}
+use Prim.Native.Nat.{◌≤◌}
 use Rattle.circuit.specs.Sizes.{most_inputs, most_gates}
-use Rattle.circuit.specs.Structs.{line_in}
-use Rattle.circuit.proofs.Operands.{second_line}
 use Rattle.sweep.specs.Parts.{marked}
-use Rattle.sweep.proofs.Marks.{Reached, reached-none, reached_next, reached-all}
+use Rattle.sweep.proofs.Marks.{Reached}
 use Rattle.sweep.proofs.used_lines.Given as goal
 
 abbrev pub invariant-loop-k : goal.invariant-loop-k
