@@ -20,7 +20,7 @@ ok : (c : Then-is_standing) → let a = c.args in Shaped a.n a.m a.g
 ok c = standing-shaped c.args.opened _ _ _ (stood c)
 
 pub target_length-requires : goal.target_length-requires
-target_length-requires c = (ok c).n_most
+target_length-requires c = (ok (goal.at.target_length-requires c).Then-is_standing).n_most
 
 -- what the second showed
 there : (c : Then-i-target_length) → let a = c.args in ltb a.i (cond a.only a.m (2 ^ a.n)) ≡ true
@@ -31,17 +31,17 @@ there c =
 pub returns-then-value_fits : goal.returns-then-value_fits
 unfolding entry_look
 returns-then-value_fits c = let v = c.before in
-    simp (stood c.before.before.before.before, there c.before.before, sym v.value_fits.ensures ∙ c.if-value_fits.true)
+    simp (stood (goal.at.returns-then-value_fits c).Then-is_standing, there (goal.at.returns-then-value_fits c).Then-i-target_length, sym v.value_fits.ensures ∙ c.if-value_fits.true)
 
 pub returns-else-value_fits : goal.returns-else-value_fits
 unfolding entry_look
 returns-else-value_fits c = let v = c.before in
-    simp (stood c.before.before.before.before, there c.before.before, sym v.value_fits.ensures ∙ c.if-value_fits.false)
+    simp (stood (goal.at.returns-else-value_fits c).Then-is_standing, there (goal.at.returns-else-value_fits c).Then-i-target_length, sym v.value_fits.ensures ∙ c.if-value_fits.false)
 
 pub returns-else-i-target_length : goal.returns-else-i-target_length
 unfolding entry_look
 returns-else-i-target_length c = let a = c.args in
-    simp (stood c.before.before, le-ltb a.i (cond a.only a.m (2 ^ a.n)) (omega (arith, c.if-i-target_length.false, c.target_length.ensures)))
+    simp (stood (goal.at.returns-else-i-target_length c).Then-is_standing, le-ltb a.i (cond a.only a.m (2 ^ a.n)) (omega (arith, c.if-i-target_length.false, c.target_length.ensures)))
 
 pub returns-else-is_standing : goal.returns-else-is_standing
 unfolding entry_look

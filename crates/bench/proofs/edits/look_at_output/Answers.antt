@@ -18,15 +18,15 @@ ok : (c : Then-is_standing) → let a = c.args in Shaped a.n a.m a.g
 ok c = standing-shaped c.args.opened _ _ _ (stood c)
 
 pub overflow_add-n : goal.overflow_add-n
-overflow_add-n c = omega (arith, ok c.before)
+overflow_add-n c = omega (arith, ok (goal.at.overflow_add-n c).Then-is_standing)
 
 pub returns-then-j-m : goal.returns-then-j-m
 unfolding output_look
-returns-then-j-m c = simp (stood c.before.before, lt-ltb _ _ c.if-j-m.true) c.check_output.ensures
+returns-then-j-m c = simp (stood (goal.at.returns-then-j-m c).Then-is_standing, lt-ltb _ _ c.if-j-m.true) c.check_output.ensures
 
 pub returns-else-j-m : goal.returns-else-j-m
 unfolding output_look
-returns-else-j-m c = simp (stood c.before, le-ltb _ _ c.if-j-m.false)
+returns-else-j-m c = simp (stood (goal.at.returns-else-j-m c).Then-is_standing, le-ltb _ _ c.if-j-m.false)
 
 pub returns-else-is_standing : goal.returns-else-is_standing
 unfolding output_look

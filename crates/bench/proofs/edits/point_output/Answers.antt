@@ -19,19 +19,19 @@ ok : (c : In-Done) → let a = c.args in OutputFits a.bench.n a.bench.m a.bench.
 ok c = output_fits _ _ _ _ _ _ (looked c)
 
 pub offset_bounds-c-j : goal.offset_bounds-c-j
-offset_bounds-c-j c = omega (arith, ok c.before, (ok c.before).shape)
+offset_bounds-c-j c = omega (arith, ok (goal.at.offset_bounds-c-j c).In-Done, (ok (goal.at.offset_bounds-c-j c).In-Done).shape)
 
 pub bounds-c-j : goal.bounds-c-j
-bounds-c-j c = omega (arith, ok c.before, (ok c.before).shape)
+bounds-c-j c = omega (arith, ok (goal.at.bounds-c-j c).In-Done, (ok (goal.at.bounds-c-j c).In-Done).shape)
 
 pub returns-in-Refused : goal.returns-in-Refused
 returns-in-Refused c = let a = c.args in
     output_refused a.j a.line a.bench _ _ (sym c.look_at_output-look.ensures ∙ c.in-Refused.is) c.refused.ensures
 
 pub returns-in-Done : goal.returns-in-Done
-returns-in-Done c = let t = c.before.before in
+returns-in-Done c = let t = c.before in
     let a = t.args in
-    output_done a.j a.line a.bench _ (looked c.before.before)
+    output_done a.j a.line a.bench _ (looked (goal.at.returns-in-Done c).In-Done)
     (c.without_rework.ensures
     ∙ ap (λ (x : ℕ). unreworked (pointing a.bench (set a.bench.outputs a.j x)) Done)
-    (c.low16.ensures ∙ mod-eq_of_lt (omega (arith, ok c.before.before, (ok c.before.before).shape))))
+    (c.low16.ensures ∙ mod-eq_of_lt (omega (arith, ok (goal.at.returns-in-Done c).In-Done, (ok (goal.at.returns-in-Done c).In-Done).shape))))

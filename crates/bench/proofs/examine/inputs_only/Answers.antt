@@ -17,10 +17,10 @@ loop-i-init c = (omega arith, refl)
 
 pub loop-i-preserved : goal.loop-i-preserved
 loop-i-preserved c = let i = c.loop-i.i in (
-      search rules,
-      ap (λ (l : List Words). set l i c.input_words.result) c.loop-i.invariant.1
-          ∙ padded_next most_lines no_words input_words i c.input_words.result (omega arith) (omega arith) c.input_words.ensures,
-    )
+  search rules,
+  ap (λ (l : List Words). set l i c.input_words.result) c.loop-i.invariant.1
+      ∙ padded_next most_lines no_words input_words i c.input_words.result (omega arith) (omega arith) c.input_words.ensures,
+)
 
 pub returns : goal.returns
 returns c = let e : c.loop-i.i ≡ c.args.n = omega arith in

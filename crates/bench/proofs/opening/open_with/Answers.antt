@@ -15,9 +15,9 @@ ok : (c : In-Done) → let r = c.read-reading.result.circuit in Shaped r.n r.m r
 ok c = read_shaped _ _ _ c.read-reading.ensures c.in-Done.is
 
 pub placed-bench-requires : goal.placed-bench-requires
-placed-bench-requires c = let t = c.before.before.before in
+placed-bench-requires c = let t = c.before in
     let a = t.args in
-    let o = ok c.before.before.before.before.before.before in (
+    let o = ok (goal.at.placed-bench-requires c).In-Done in (
       o.n_most,
       o.m_most,
       o.g_most,

@@ -14,11 +14,11 @@ loop-k-init c = (search rules, search rules, search rules, lines_none c.args.n)
 
 pub loop-k-preserved : goal.loop-k-preserved
 loop-k-preserved c = let n = c.args.n in (
-      search rules,
-      search rules,
-      search rules,
-      lines_next n c.loop-k.k c.loop-k.lines c.low16.result (c.low16.ensures ∙ mod-eq_of_lt (omega arith)) (omega arith) c.loop-k.invariant.3,
-    )
+  search rules,
+  search rules,
+  search rules,
+  lines_next n c.loop-k.k c.loop-k.lines c.low16.result (c.low16.ensures ∙ mod-eq_of_lt (omega arith)) (omega arith) c.loop-k.invariant.3,
+)
 
 pub returns : goal.returns
 returns c = let a = c.args in

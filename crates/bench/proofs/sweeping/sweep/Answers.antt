@@ -26,16 +26,16 @@ cleared c = c.sweep-c.ensures ∙ ap swept_in c.circuit_of.ensures
 pub examine-next-requires : goal.examine-next-requires
 examine-next-requires c = let s = c.before in
     let b = s.args.bench in
-    subst (λ (d : Bench). (d.n ≤ most_inputs) × (d.g ≤ most_gates)) (sym c.with_circuit.ensures) (sweep_bounds b s.sweep-c.result (opened c.before) (cleared c.before))
+    subst (λ (d : Bench). (d.n ≤ most_inputs) × (d.g ≤ most_gates)) (sym c.with_circuit.ensures) (sweep_bounds b s.sweep-c.result (opened (goal.at.examine-next-requires c).After-sweep-c) (cleared (goal.at.examine-next-requires c).After-sweep-c))
 
 pub kept_lines-edit-requires : goal.kept_lines-edit-requires
-kept_lines-edit-requires c = let s = c.before.before in sweep_bounds s.args.bench s.sweep-c.result (opened c.before.before) (cleared c.before.before)
+kept_lines-edit-requires c = let s = c.before in sweep_bounds s.args.bench s.sweep-c.result (opened (goal.at.kept_lines-edit-requires c).After-sweep-c) (cleared (goal.at.kept_lines-edit-requires c).After-sweep-c)
 
 pub returns-then-is_standing : goal.returns-then-is_standing
 returns-then-is_standing c = let s = c.before in
     let b = s.args.bench in
-    sweep_open b c.kept_lines-edit.result c.examine-next.result (opened c.before.before.before) (c.kept_lines-edit.ensures ∙ ap (λ (z : Circuit). reworking (lines_of z.n z.g)) (cleared c.before.before.before))
-    (c.examine-next.ensures ∙ ap examined (c.with_circuit.ensures ∙ ap (recircuited b) (cleared c.before.before.before)))
+    sweep_open b c.kept_lines-edit.result c.examine-next.result (opened (goal.at.returns-then-is_standing c).After-sweep-c) (c.kept_lines-edit.ensures ∙ ap (λ (z : Circuit). reworking (lines_of z.n z.g)) (cleared (goal.at.returns-then-is_standing c).After-sweep-c))
+    (c.examine-next.ensures ∙ ap examined (c.with_circuit.ensures ∙ ap (recircuited b) (cleared (goal.at.returns-then-is_standing c).After-sweep-c)))
 
 pub returns : goal.returns
 returns c = let b = c.args.bench in
