@@ -1,5 +1,4 @@
 -- `any_call` meets its contract: the word is one of the table, or none before the last was. Assumes nothing.
-use borrow.Author.Rules.{rules}
 use Rattle.script.proofs.Meanings.{is_word, is_other}
 use Rattle.script.proofs.any_call.Goals as goal
 

@@ -1,5 +1,4 @@
 -- `bytes_call` meets its contract: the word is one of the table, or none before the last was. Assumes nothing.
-use borrow.Author.Rules.{rules}
 use Rattle.script.proofs.Meanings.{is_word, is_other, is_none}
 use Rattle.script.proofs.bytes_call.Goals as goal
 

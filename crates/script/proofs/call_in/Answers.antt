@@ -1,5 +1,4 @@
 -- `call_in` meets its contract, a law for each return. Assumes nothing.
-use borrow.Author.Rules.{rules}
 use Rattle.script.proofs.Meanings.{too_long, is_blank, is_note, is_call}
 use Rattle.script.proofs.call_in.Goals as goal
 

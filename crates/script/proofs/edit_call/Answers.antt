@@ -1,5 +1,4 @@
 -- `edit_call` meets its contract: the word is one of the table, or none before the last was. Assumes nothing.
-use borrow.Author.Rules.{rules}
 use Rattle.script.proofs.Meanings.{is_word, is_other}
 use Rattle.script.proofs.edit_call.Goals as goal
 

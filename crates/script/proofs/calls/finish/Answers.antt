@@ -1,5 +1,4 @@
 -- `calls::finish` meets its contract: the call stands where the line ends. Assumes nothing.
-use borrow.Author.Rules.{rules}
 use Rattle.script.proofs.Meanings.{means_done, means_not}
 use Rattle.script.proofs.calls.finish.Goals as goal
 

@@ -1,5 +1,4 @@
 -- `calls::read_hint` meets its contract: what the line asks is the same from each word on. Assumes nothing.
-use borrow.Author.Rules.{rules}
 use mathlib.Core.Path.{◌∙◌}
 use Rattle.script.proofs.Meanings.{means_as}
 use Rattle.script.proofs.calls.read_hint.Goals as goal

@@ -1,5 +1,4 @@
 -- `calls::read_open` meets its contract: what the line asks is the same from each word on. Assumes nothing.
-use borrow.Author.Rules.{rules}
 use mathlib.Core.Path.{◌≡◌, ◌∙◌}
 use mathlib.Core.Bool.{Bool, true, false}
 use mathlib.Core.List.{List}

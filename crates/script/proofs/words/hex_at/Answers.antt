@@ -1,5 +1,4 @@
 -- `words::hex_at` meets its contract, a law for each return. Assumes nothing.
-use borrow.Author.Rules.{rules}
 use Rattle.script.proofs.HexWords.{hex-none, hex_dash, hex_pairs, hex_lost}
 use Rattle.script.proofs.words.hex_at.Goals as goal
 use Rattle.std.proofs.lemmas.Bool.{not-false, not-true}

@@ -1,5 +1,4 @@
 -- `words::is_done` meets its contract: whether the next word is empty. Assumes nothing.
-use borrow.Author.Rules.{rules}
 use Rattle.script.proofs.Steps.{ends_none, ends_not, ends_here}
 use Rattle.script.proofs.words.is_done.Goals as goal
 use Rattle.std.proofs.lemmas.Bool.{not-false, not-true}

@@ -1,5 +1,4 @@
 -- `words::kind_at` meets its contract: the word is `matrix`, `table` or neither. Assumes nothing.
-use borrow.Author.Rules.{rules}
 use mathlib.Core.Bool.{Bool}
 use mathlib.Core.List.{List}
 use Prim.Native.Nat.{ℕ}

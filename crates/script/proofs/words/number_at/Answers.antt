@@ -1,5 +1,4 @@
 -- `words::number_at` meets its contract. The word is what `next_word` answers, and its number what `read_number` does. Assumes nothing.
-use borrow.Author.Rules.{rules}
 use mathlib.Core.Path.{sym, ◌∙◌, ap}
 use Rattle.text.specs.Numbers.{number_in}
 use Rattle.script.proofs.Steps.{took_none, took_word, took_lost, number_value, number-not}

@@ -1,5 +1,4 @@
 -- `words::number_or_zero` meets its contract: the next word is a number, or there is none. Assumes nothing.
-use borrow.Author.Rules.{rules}
 use Rattle.script.proofs.Steps.{zero_word, zero-none}
 use Rattle.script.proofs.words.number_or_zero.Goals as goal
 
