@@ -10,7 +10,7 @@ status=0
 processor=x86_64
 
 mkdir "$scratch/basics"
-for tool in bash cp diff dirname grep mktemp rm sed tail tee; do
+for tool in bash cp diff dirname grep mkdir mktemp rm sed tail tee; do
     ln -s "$(type -P "$tool")" "$scratch/basics/" || exit 1
 done
 
@@ -34,10 +34,10 @@ house() {
     echo 'from C' >bindings/c/example.out
     echo 'from Rust' >bindings/rust/examples/morning.out
     echo 'exit 0' >tests/script.sh
-    stub rt 'exec "$0-$1"'
+    stub rt 'exec "$0-$1" "${@:2}"'
     stub rt-ci 'echo "5 passed, 0 failed"'
-    stub rt-fmt ''
-    stub rt-staticlib ''
+    stub rt-lib 'mkdir -p "crates/$1/out" && echo library >"crates/$1/out/lib$1.a"'
+    stub rt-run 'mkdir -p "crates/$1/out" && echo program >"crates/$1/out/$1"'
     stub cargo 'exec "$0-$1"'
     stub cargo-test 'source ./cargo-test'
     stub cargo-run 'echo "from Rust"'
@@ -75,44 +75,48 @@ says() {
     fi
 }
 
-says '16 passed, 0 failed' true
+says '15 passed, 0 failed' true
 
-says 'FAILED: rt ci, exit status 1;16 passed, 1 failed' stub rt-ci 'echo "5 passed, 0 failed"; exit 1'
-says 'FAILED: rt ci, 2 of its tests;14 passed, 2 failed' stub rt-ci 'echo "3 passed, 2 failed"; exit 1'
-says 'FAILED: rt ci, no test ran;11 passed, 1 failed' stub rt-ci 'echo "0 passed, 0 failed"'
-says 'FAILED: rt ci, no test ran;11 passed, 1 failed' stub rt-ci 'echo "5 passed, 0 failed"; echo "and more"'
-says 'FAILED: rt ci, no test ran;11 passed, 1 failed' stub rt-ci ''
-says 'FAILED: layout of the sources;15 passed, 1 failed' stub rt-fmt 'exit 1'
-says 'FAILED: static library for other languages;15 passed, 1 failed' stub rt-staticlib 'exit 1'
+says 'FAILED: rt ci, exit status 1;15 passed, 1 failed' stub rt-ci 'echo "5 passed, 0 failed"; exit 1'
+says 'FAILED: rt ci, 2 of its tests;13 passed, 2 failed' stub rt-ci 'echo "3 passed, 2 failed"; exit 1'
+says 'FAILED: rt ci, no test ran;10 passed, 1 failed' stub rt-ci 'echo "0 passed, 0 failed"'
+says 'FAILED: rt ci, no test ran;10 passed, 1 failed' stub rt-ci 'echo "5 passed, 0 failed"; echo "and more"'
+says 'FAILED: rt ci, no test ran;10 passed, 1 failed' stub rt-ci ''
+says 'FAILED: rt ci, bad edits;15 passed, 1 failed' stub rt-ci 'echo "rt: ok, must-fail edits: 4 refused, 1 bad"; echo "5 passed, 0 failed"'
+linked='FAILED: programs, and the static library for other languages'
+says "$linked;14 passed, 1 failed" stub rt-lib 'exit 1'
+says "$linked;14 passed, 1 failed" stub rt-lib ''
+says "$linked;14 passed, 1 failed" stub rt-run 'exit 1'
+says "$linked;14 passed, 1 failed" stub rt-run ''
 
-says 'FAILED: example in C;15 passed, 1 failed' stub cc 'exit 1'
-says 'FAILED: example in C;15 passed, 1 failed' stub example 'echo "from c"'
-says 'FAILED: example in C;15 passed, 1 failed' stub example 'echo "from C"; exit 1'
-says 'FAILED: example in Rust;15 passed, 1 failed' stub cargo-run 'echo "from rust"'
-says 'FAILED: example in Rust;15 passed, 1 failed' stub cargo-run 'echo "from Rust"; exit 1'
+says 'FAILED: example in C;14 passed, 1 failed' stub cc 'exit 1'
+says 'FAILED: example in C;14 passed, 1 failed' stub example 'echo "from c"'
+says 'FAILED: example in C;14 passed, 1 failed' stub example 'echo "from C"; exit 1'
+says 'FAILED: example in Rust;14 passed, 1 failed' stub cargo-run 'echo "from rust"'
+says 'FAILED: example in Rust;14 passed, 1 failed' stub cargo-run 'echo "from Rust"; exit 1'
 
 compare='FAILED: cargo test in compare'
-says "$compare, exit status 101;16 passed, 1 failed" package compare 'echo "test result: ok. 3 passed; 0 failed;"; exit 101'
-says "$compare, exit status 101;13 passed, 1 failed" package compare 'echo "error: could not compile"; exit 101'
-says "$compare, 1 of its tests;15 passed, 1 failed" package compare 'echo "test result: FAILED. 2 passed; 1 failed;"; exit 101'
-says "$compare, no test ran;13 passed, 1 failed" package compare 'echo "test result: ok. 0 passed; 0 failed;"'
-says "$compare, no test ran;13 passed, 1 failed" package compare ''
-says "$compare, exit status 1;13 passed, 1 failed" rm -r compare
+says "$compare, exit status 101;15 passed, 1 failed" package compare 'echo "test result: ok. 3 passed; 0 failed;"; exit 101'
+says "$compare, exit status 101;12 passed, 1 failed" package compare 'echo "error: could not compile"; exit 101'
+says "$compare, 1 of its tests;14 passed, 1 failed" package compare 'echo "test result: FAILED. 2 passed; 1 failed;"; exit 101'
+says "$compare, no test ran;12 passed, 1 failed" package compare 'echo "test result: ok. 0 passed; 0 failed;"'
+says "$compare, no test ran;12 passed, 1 failed" package compare ''
+says "$compare, exit status 1;12 passed, 1 failed" rm -r compare
 
-says 'FAILED: tests/script.sh;15 passed, 1 failed' sed -i s/0/1/ tests/script.sh
-says 'FAILED: tests/*.sh;15 passed, 1 failed' rm tests/script.sh
+says 'FAILED: tests/script.sh;14 passed, 1 failed' sed -i s/0/1/ tests/script.sh
+says 'FAILED: tests/*.sh;14 passed, 1 failed' rm tests/script.sh
 
-says 'FAILED: no valgrind on the PATH;16 passed, 1 failed' rm bin/valgrind
-says 'FAILED: no cc on the PATH;FAILED: example in C;15 passed, 2 failed' rm bin/cc
+says 'FAILED: no valgrind on the PATH;15 passed, 1 failed' rm bin/valgrind
+says 'FAILED: no cc on the PATH;FAILED: example in C;14 passed, 2 failed' rm bin/cc
 says 'FAILED: no rt on the PATH;FAILED: rt ci, exit status 127;'\
-'FAILED: layout of the sources;FAILED: static library for other languages;9 passed, 4 failed' rm bin/rt
+'FAILED: programs, and the static library for other languages;9 passed, 3 failed' rm bin/rt
 says 'FAILED: no cargo on the PATH;FAILED: cargo test in reference, exit status 127;'\
-"FAILED: example in Rust;$compare, exit status 127;9 passed, 4 failed" rm bin/cargo
+"FAILED: example in Rust;$compare, exit status 127;8 passed, 4 failed" rm bin/cargo
 
 # without NAME: the house on another processor, where the tool NAME fails
 without() { other_processor && stub "$1" 'exit 1'; }
-says '17 passed, 0 failed' other_processor
-says 'FAILED: compilers for x86-64;16 passed, 1 failed' without dpkg
-says 'FAILED: example in C;16 passed, 1 failed' without x86_64-linux-gnu-gcc
-says 'FAILED: example in C;16 passed, 1 failed' without qemu-x86_64
+says '16 passed, 0 failed' other_processor
+says 'FAILED: compilers for x86-64;15 passed, 1 failed' without dpkg
+says 'FAILED: example in C;15 passed, 1 failed' without x86_64-linux-gnu-gcc
+says 'FAILED: example in C;15 passed, 1 failed' without qemu-x86_64
 exit $status

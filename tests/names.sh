@@ -5,7 +5,7 @@ set -uo pipefail
 words=$(mktemp) || exit 1
 trap 'rm -f "$words"' EXIT
 {
-    find crates -name '*.antt' -exec sed 's/--.*//' {} + | grep -oE '[A-Za-z][A-Za-z0-9-]*' | sort -u
+    find crates -name '*.antt' -exec sed 's/--.*//' {} + | grep -oE '[A-Za-z][A-Za-z0-9_-]*' | sort -u
     ls crates
 } >"$words" || exit 1
 
@@ -22,5 +22,5 @@ missing=0
 while read -r name; do
     named=$((named + 1))
     is_there "$name" || { missing=$((missing + 1)) && echo "not there: $name"; }
-done < <(grep -oE '`[A-Za-z][A-Za-z0-9/*-]*`' docs/DEFINITION.md | tr -d '`' | sort -u)
+done < <(grep -oE '`[A-Za-z][A-Za-z0-9_/*-]*`' docs/DEFINITION.md | tr -d '`' | sort -u)
 [ "$named" -gt 50 ] && [ "$missing" -eq 0 ]

@@ -10,7 +10,7 @@ use lib.ListN.{length, get_or, set, length-append, length-map, get_or-map, get_o
 use Rattle.circuit.specs.declared.Circuit.{Circuit}
 use Rattle.circuit.specs.declared.Answer.TheVariants.{Done}
 use Rattle.circuit.specs.Sizes.{most_outputs, most_gates, most_lines}
-use Rattle.circuit.specs.Lines.{Gate, Listing, gate, no_gate, listing, gate_at, with_more, upto, padded}
+use Rattle.circuit.specs.Lines.{Gate, Listing, gate, no_gate, listing, gate_at, with_more, padded}
 use Rattle.circuit.specs.Structs.{column, line_in, held, put_gate, gate_of, out_of, listed}
 use Rattle.circuit.specs.Rules.{listing_answer}
 use Rattle.circuit.proofs.RuleLaws.{gate_fits, out_below, CircuitFits, circuit_fits}

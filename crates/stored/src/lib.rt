@@ -1,4 +1,6 @@
 // The stored form of a circuit: records with two-byte marks, read and written.
+#![tactic(auto)]
+
 use circuit::{Answer, Circuit, Refusal};
 
 pub mod reader; // reader.rt: stored bytes to a circuit

@@ -1,4 +1,6 @@
 // Text on slices: places and words in a line, numbers and hex, putting an answer together in a lent room.
+#![tactic(auto)]
+
 ghost use Rattle.std.specs.Prelude.{◌≡◌, ◌+◌, ◌-◌, ◌*◌, ◌/◌, ◌<◌, ◌≤◌, min, leb, length, drop};
 ghost use Rattle.io.specs.Counts.{IsPrefixLen};
 ghost use Rattle.text.specs.Places.{up_to, past, same_list, trim_len, NextWord};

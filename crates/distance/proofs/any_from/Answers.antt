@@ -1,10 +1,6 @@
 -- `any_from` meets its contract: the entries before i are below b.
-use mathlib.Core.Path.{◌≡◌, sym, ◌∙◌}
-use Prim.Native.Nat.{◌-◌}
+use mathlib.Core.Path.{sym, ◌∙◌}
 use native.Mathlib.Omega.{arith}
-use borrow.Author.Rules.{rules}
-use lib.ListN.{length, drop}
-use Rattle.distance.specs.Query.{any_from}
 use Rattle.distance.proofs.Refuse.{any_hit, any_miss, any_end}
 use Rattle.distance.proofs.any_from.Goals as goal
 

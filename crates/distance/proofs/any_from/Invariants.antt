@@ -1,10 +1,7 @@
-use mathlib.Core.Path.{◌≡◌, sym, ◌∙◌}
+use mathlib.Core.Path.{◌≡◌}
 use Prim.Native.Nat.{◌-◌}
-use native.Mathlib.Omega.{arith}
-use borrow.Author.Rules.{rules}
 use lib.ListN.{length, drop}
 use Rattle.distance.specs.Query.{any_from}
-use Rattle.distance.proofs.Refuse.{any_hit, any_miss, any_end}
 use Rattle.distance.proofs.any_from.Given as goal
 
 abbrev pub invariant-loop-i : goal.invariant-loop-i

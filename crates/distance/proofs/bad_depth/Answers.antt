@@ -1,5 +1,4 @@
 -- `bad_depth` meets its contract.
-use borrow.Author.Rules.{rules}
 use Rattle.distance.proofs.Tests.{or_hit, or_miss}
 use Rattle.distance.proofs.bad_depth.Goals as goal
 

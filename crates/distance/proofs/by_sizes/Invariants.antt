@@ -1,18 +1,9 @@
-use mathlib.Core.List.{List}
-use mathlib.Core.Logic.{⊎_elim}
-use mathlib.Core.Path.{◌≡◌, refl, sym, ◌∙◌, subst}
-use Prim.Native.Nat.{ℕ, ◌+◌, ◌-◌, max}
-use native.Mathlib.Nat.{sub-zero}
-use native.Mathlib.Omega.{arith}
-use borrow.Author.Rules.{rules}
+use mathlib.Core.Path.{◌≡◌}
+use Prim.Native.Nat.{◌-◌, max}
 use lib.ListN.{replicate}
 use Rattle.distance.specs.Base.{base_of}
-use Rattle.distance.specs.Distance.{gap_from, first_at}
+use Rattle.distance.specs.Distance.{gap_from}
 use Rattle.distance.specs.Table.{Below, Ones}
-use Rattle.distance.proofs.Sizes.{size_hit, size_miss, size_end}
-use Rattle.distance.proofs.Entries.{cost_is, cost_lt}
-use Rattle.distance.proofs.BySizes.{below_two, size_filled, size_there, ready_of}
-use Rattle.distance.proofs.Lines.{put-found, put-not, answer_found, answer_none}
 use Rattle.distance.proofs.by_sizes.Given as goal
 
 abbrev pub invariant-loop-g : goal.invariant-loop-g

@@ -2,7 +2,6 @@
 use mathlib.Core.Path.{sym, ◌∙◌}
 use Prim.Native.Nat.{◌≤◌}
 use native.Mathlib.Omega.{arith}
-use borrow.Author.Rules.{rules}
 use lib.Pow.{pow_mono}
 use Rattle.distance.specs.Query.{answer_of, lines_of}
 use Rattle.distance.proofs.Refuse.{Fit, fit}
@@ -23,7 +22,7 @@ pub overflow_cast-d : goal.overflow_cast-d
 overflow_cast-d c = omega (arith, (ok c).depth)
 
 pub by_sizes-requires : goal.by_sizes-requires
-by_sizes-requires c = let f = ok c in (f.even, (f.few_lines, (f.shallow, (f.few_inputs, f.depth))))
+by_sizes-requires c = let f = ok c in record { fact_1 = f.even; fact_2 = f.few_lines; fact_3 = f.shallow; fact_4 = f.few_inputs; fact_5 = f.depth }
 
 pub returns-in-Unsound : goal.returns-in-Unsound
 unfolding answer_of lines_of

@@ -1,7 +1,6 @@
 -- `distance_no` meets its contract: the number of the answer, and the lines as they are.
 use mathlib.Core.Path.{ap, ◌∙◌}
 use Prim.Native.Nat.{ℕ}
-use borrow.Author.Rules.{rules}
 use Rattle.distance.specs.Query.{found_code}
 use Rattle.distance.proofs.distance_no.Goals as goal
 

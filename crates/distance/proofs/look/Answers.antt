@@ -1,6 +1,5 @@
 -- `look` meets its contract: each test in the order of the definition.
 use mathlib.Core.Path.{sym, ◌∙◌}
-use borrow.Author.Rules.{rules}
 use Rattle.distance.specs.Query.{look_at}
 use Rattle.distance.proofs.Refuse.{few_inputs}
 use Rattle.distance.proofs.look.Goals as goal

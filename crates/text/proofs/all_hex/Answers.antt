@@ -1,9 +1,6 @@
 -- `text::all_hex` meets its contract. The invariant: what is left decides as the whole does. Assumes nothing.
 use borrow.Author.Rules.{rules}
-use mathlib.Core.Path.{◌≡◌, refl, sym, ◌∙◌}
-use Prim.Native.Nat.{◌-◌, ◌≤◌}
-use lib.ListN.{length, drop}
-use Rattle.text.specs.Numbers.{all_hex}
+use mathlib.Core.Path.{refl, sym, ◌∙◌}
 use Rattle.text.proofs.Numbers.{hex_bad, hex_good, hex_end}
 use Rattle.text.proofs.all_hex.Goals as goal
 

@@ -1,9 +1,7 @@
-use borrow.Author.Rules.{rules}
-use mathlib.Core.Path.{◌≡◌, refl, sym, ◌∙◌}
+use mathlib.Core.Path.{◌≡◌}
 use Prim.Native.Nat.{◌-◌, ◌≤◌}
 use lib.ListN.{length, drop}
 use Rattle.text.specs.Numbers.{all_hex}
-use Rattle.text.proofs.Numbers.{hex_bad, hex_good, hex_end}
 use Rattle.text.proofs.all_hex.Given as goal
 
 abbrev pub invariant-loop-i : goal.invariant-loop-i

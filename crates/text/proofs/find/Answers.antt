@@ -1,13 +1,10 @@
 -- `text::find` meets its contract. The invariant: what is left gives the whole answer. Assumes nothing.
-use borrow.Author.Rules.{rules}
 use native.Mathlib.Omega.{arith}
-use mathlib.Core.Path.{◌≡◌, refl, ap}
-use Prim.Native.Nat.{ℕ, ◌+◌, ◌-◌}
+use mathlib.Core.Path.{refl, ap}
+use Prim.Native.Nat.{ℕ}
 use mathlib.Core.Bool.{not}
 use lib.Dec.{eqb}
 use borrow.Author.Tests.{eq-eqb, ne_eqb}
-use lib.ListN.{length, drop}
-use Rattle.text.specs.Places.{up_to}
 use Rattle.text.proofs.Places.{run_here, run_next, run_end}
 use Rattle.text.proofs.find.Goals as goal
 

@@ -1,5 +1,4 @@
 -- `text::next_word` meets its contract. The word is what `skip` and `find` answer. Assumes nothing.
-use borrow.Author.Rules.{rules}
 use Rattle.text.proofs.Places.{next_of}
 use Rattle.text.proofs.next_word.Goals as goal
 

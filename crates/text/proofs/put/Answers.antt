@@ -1,11 +1,11 @@
 -- `text::put` meets its contract. The invariant: the first i bytes are pasted. Assumes nothing.
 use borrow.Author.Rules.{rules}
 use native.Mathlib.Omega.{arith}
-use mathlib.Core.Path.{◌≡◌, ◌∙◌, ap}
+use mathlib.Core.Path.{◌∙◌, ap}
 use mathlib.Core.List.{List}
-use Prim.Native.Nat.{ℕ, ◌+◌, ◌-◌, ◌≤◌}
-use lib.ListN.{length, get_or, set, length-set}
-use lib.Seq.{paste, paste-zero}
+use Prim.Native.Nat.{ℕ, ◌+◌}
+use lib.ListN.{get_or, set, length-set}
+use lib.Seq.{paste-zero}
 use Rattle.text.proofs.Putting.{paste_next, put_done, is_free, not_free, put_fits, put_short}
 use Rattle.text.proofs.put.Goals as goal
 

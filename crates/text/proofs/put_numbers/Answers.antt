@@ -1,12 +1,11 @@
 -- `text::put_numbers` meets its contract. The invariant: the first i numbers are put. Assumes nothing.
 use mathlib.Core.Path.{◌≡◌, ◌∙◌, ap}
-use Prim.Native.Nat.{ℕ, ◌+◌, ◌-◌, ◌*◌, ◌≤◌}
+use Prim.Native.Nat.{ℕ}
 use native.Mathlib.Omega.{arith}
 use borrow.Author.Rules.{rules}
 use lib.ListN.{length, take}
 use lib.Seq.{take-length}
 use Rattle.text.specs.Numbers.{numbers_text}
-use Rattle.text.specs.Putting.{Put}
 use Rattle.text.proofs.Numbers.{numbers_next}
 use Rattle.text.proofs.Putting.{put-none, put_then, put_as, is_free, not_free, put_fits, put_short, put_free}
 use Rattle.text.proofs.put_numbers.Goals as goal

@@ -1,11 +1,10 @@
 -- `text::read_number` meets its contract. The invariant: the digits left, after the number so far, say the whole; a number too large stays so. Assumes nothing.
 use borrow.Author.Rules.{rules}
 use native.Mathlib.Omega.{arith}
-use mathlib.Core.Path.{◌≡◌, refl, sym, ◌∙◌}
-use Prim.Native.Nat.{◌+◌, ◌-◌, ◌*◌, ◌^◌, ◌≤◌, ◌<◌}
-use lib.ListN.{length, drop}
+use mathlib.Core.Path.{refl, sym, ◌∙◌}
+use Prim.Native.Nat.{◌+◌, ◌-◌, ◌*◌, ◌^◌, ◌≤◌}
+use lib.ListN.{length}
 use borrow.Author.Tests.{le-ltb}
-use Rattle.text.specs.Numbers.{num_from}
 use Rattle.text.proofs.Numbers.{num_low, num_high, num_step, num_big, num_end, num_is}
 use Rattle.text.proofs.read_number.Goals as goal
 

@@ -1,10 +1,7 @@
 -- `text::same` meets its contract. The invariant: what is left decides as the whole does. Assumes nothing.
 use borrow.Author.Rules.{rules}
 use native.Mathlib.Omega.{arith}
-use mathlib.Core.Path.{◌≡◌, refl, sym, ◌∙◌}
-use Prim.Native.Nat.{◌-◌, ◌≤◌}
-use lib.ListN.{length, drop}
-use Rattle.text.specs.Places.{same_list}
+use mathlib.Core.Path.{refl, sym, ◌∙◌}
 use Rattle.text.proofs.Places.{same_not, same_next, same_end, unlike}
 use Rattle.text.proofs.same.Goals as goal
 

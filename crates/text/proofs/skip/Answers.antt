@@ -1,12 +1,9 @@
 -- `text::skip` meets its contract. The invariant: what is left gives the whole answer. Assumes nothing.
-use borrow.Author.Rules.{rules}
 use native.Mathlib.Omega.{arith}
-use mathlib.Core.Path.{◌≡◌, refl}
-use Prim.Native.Nat.{ℕ, ◌+◌, ◌-◌}
+use mathlib.Core.Path.{refl}
+use Prim.Native.Nat.{ℕ}
 use lib.Dec.{eqb}
 use borrow.Author.Tests.{eq-eqb, ne_eqb}
-use lib.ListN.{length, drop}
-use Rattle.text.specs.Places.{past}
 use Rattle.text.proofs.Places.{run_here, run_next, run_end}
 use Rattle.text.proofs.skip.Goals as goal
 

@@ -2,9 +2,9 @@
 use borrow.Author.Rules.{rules}
 use native.Mathlib.Omega.{arith}
 use mathlib.Core.Path.{◌≡◌, refl, sym, ◌∙◌, ap}
-use Prim.Native.Nat.{ℕ, ◌+◌, ◌-◌, ◌≤◌, min}
+use Prim.Native.Nat.{ℕ, ◌+◌, ◌-◌}
 use mathlib.Core.List.{◌++◌}
-use lib.ListN.{length, drop, get_or, take, length-set, take-append-drop}
+use lib.ListN.{drop, get_or, take, length-set, take-append-drop}
 use Rattle.text.proofs.Putting.{front_next, rest_next, front_done}
 use Rattle.text.proofs.to_front.Goals as goal
 

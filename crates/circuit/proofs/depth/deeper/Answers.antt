@@ -1,7 +1,5 @@
 -- `circuit::depth::deeper` meets its contract: the test picks the greater, and a byte holds one more than what is below 255. Assumes nothing.
-use borrow.Author.Rules.{rules}
 use native.Mathlib.Omega.{arith}
-use mathlib.Core.Logic.{⊎_elim}
 use Rattle.circuit.proofs.depth.deeper.Goals as goal
 use Rattle.circuit.proofs.depth.deeper.Goals.{else-a-b, then-a-b}
 

@@ -1,11 +1,5 @@
 -- `circuit::depth::greatest_of` meets its contract: the greatest is that of what was passed and what is left.
-use mathlib.Core.Logic.{⊎_elim}
-use mathlib.Core.Path.{◌≡◌}
-use Prim.Native.Nat.{max, ◌-◌}
 use native.Mathlib.Omega.{arith}
-use borrow.Author.Rules.{rules}
-use lib.ListN.{drop}
-use Rattle.circuit.specs.Lines.{greatest}
 use Rattle.circuit.proofs.Depths.{greatest_next, greatest_end}
 use Rattle.circuit.proofs.depth.greatest_of.Goals as goal
 use Rattle.circuit.proofs.depth.greatest_of.Goals.{else-top-xs, then-top-xs}

@@ -1,11 +1,7 @@
-use mathlib.Core.Logic.{⊎_elim}
 use mathlib.Core.Path.{◌≡◌}
 use Prim.Native.Nat.{max, ◌-◌}
-use native.Mathlib.Omega.{arith}
-use borrow.Author.Rules.{rules}
 use lib.ListN.{drop}
 use Rattle.circuit.specs.Lines.{greatest}
-use Rattle.circuit.proofs.Depths.{greatest_next, greatest_end}
 use Rattle.circuit.proofs.depth.greatest_of.Given as goal
 
 abbrev pub invariant-loop-i : goal.invariant-loop-i

@@ -1,9 +1,8 @@
 -- `circuit::depth::line_depths` meets its contract. The invariant: the array holds the depths so far. Assumes nothing.
 use mathlib.Core.Path.{◌≡◌, subst, ap, ◌∙◌}
-use Prim.Native.Nat.{ℕ, ◌-◌, ◌≤◌}
+use Prim.Native.Nat.{ℕ}
 use native.Mathlib.Omega.{arith}
 use borrow.Author.Rules.{rules}
-use Rattle.circuit.specs.Sizes.{most_inputs, most_gates}
 use Rattle.circuit.specs.Structs.{line_in}
 use Rattle.circuit.proofs.Operands.{second_line}
 use Rattle.circuit.proofs.Depths.{Held, held_start, held_next}

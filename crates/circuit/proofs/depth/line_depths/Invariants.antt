@@ -1,11 +1,6 @@
-use mathlib.Core.Path.{◌≡◌, subst, ap, ◌∙◌}
-use Prim.Native.Nat.{ℕ, ◌-◌, ◌≤◌}
-use native.Mathlib.Omega.{arith}
-use borrow.Author.Rules.{rules}
+use Prim.Native.Nat.{◌-◌, ◌≤◌}
 use Rattle.circuit.specs.Sizes.{most_inputs, most_gates}
-use Rattle.circuit.specs.Structs.{line_in}
-use Rattle.circuit.proofs.Operands.{second_line}
-use Rattle.circuit.proofs.Depths.{Held, held_start, held_next}
+use Rattle.circuit.proofs.Depths.{Held}
 use Rattle.circuit.proofs.depth.line_depths.Given as goal
 
 abbrev pub invariant-loop-k : goal.invariant-loop-k

@@ -1,11 +1,9 @@
 -- `circuit::depth::overall_of` meets its contract: the greatest is that of the outputs passed and of those that are left. Assumes nothing.
-use mathlib.Core.Logic.{⊎_elim}
-use mathlib.Core.Path.{◌≡◌, ap}
-use Prim.Native.Nat.{ℕ, max, ◌-◌}
+use mathlib.Core.Path.{ap}
+use Prim.Native.Nat.{ℕ}
 use native.Mathlib.Omega.{arith}
-use borrow.Author.Rules.{rules}
 use lib.ListN.{get_or}
-use Rattle.circuit.proofs.Depths.{From, overall_next, overall_end}
+use Rattle.circuit.proofs.Depths.{overall_next, overall_end}
 use Rattle.circuit.proofs.depth.overall_of.Goals as goal
 use Rattle.circuit.proofs.depth.overall_of.Goals.{else-top-here, then-top-here}
 

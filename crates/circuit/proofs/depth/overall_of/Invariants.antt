@@ -1,10 +1,6 @@
-use mathlib.Core.Logic.{⊎_elim}
-use mathlib.Core.Path.{◌≡◌, ap}
-use Prim.Native.Nat.{ℕ, max, ◌-◌}
-use native.Mathlib.Omega.{arith}
-use borrow.Author.Rules.{rules}
-use lib.ListN.{get_or}
-use Rattle.circuit.proofs.Depths.{From, overall_next, overall_end}
+use mathlib.Core.Path.{◌≡◌}
+use Prim.Native.Nat.{max, ◌-◌}
+use Rattle.circuit.proofs.Depths.{From}
 use Rattle.circuit.proofs.depth.overall_of.Given as goal
 
 abbrev pub invariant-loop-j : goal.invariant-loop-j

@@ -3,7 +3,6 @@ use mathlib.Core.Path.{◌≡◌, refl, sym}
 use native.Mathlib.Omega.{arith}
 use native.Mathlib.Nat.{add-zero}
 use Prim.Native.Nat.{ℕ, ◌+◌}
-use borrow.Author.Rules.{rules}
 use Rattle.circuit.specs.declared.Tally.{Tally}
 use Rattle.circuit.specs.Gate.{Kind, xor_type, nonlinear, inverter, tallied}
 use Rattle.circuit.proofs.GateLaws.{CountsAs, low_xor, middle-nonlinear, high_counts}

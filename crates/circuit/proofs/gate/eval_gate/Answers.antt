@@ -1,5 +1,4 @@
 -- `circuit::gate::eval_gate` meets its contract: on each way the kind's number is known. Assumes nothing.
-use borrow.Author.Rules.{rules}
 use native.Mathlib.Omega.{arith}
 use mathlib.Core.Path.{◌≡◌, ◌∙◌, sym, ap}
 use Prim.Native.Nat.{ℕ}

@@ -1,8 +1,5 @@
 -- `circuit::gate::tally` meets its contract. The invariant: the counts so far and those of the kinds left make the whole. Assumes nothing.
-use borrow.Author.Rules.{rules}
-use Prim.Native.Nat.{◌-◌}
-use lib.ListN.{length}
-use Rattle.circuit.proofs.Counting.{Counted, counted_start, counted_more, counted_end}
+use Rattle.circuit.proofs.Counting.{counted_start, counted_more, counted_end}
 use Rattle.circuit.proofs.gate.tally.Goals as goal
 
 pub loop-i-init : goal.loop-i-init

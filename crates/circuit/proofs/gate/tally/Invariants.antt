@@ -1,7 +1,6 @@
-use borrow.Author.Rules.{rules}
 use Prim.Native.Nat.{◌-◌}
 use lib.ListN.{length}
-use Rattle.circuit.proofs.Counting.{Counted, counted_start, counted_more, counted_end}
+use Rattle.circuit.proofs.Counting.{Counted}
 use Rattle.circuit.proofs.gate.tally.Given as goal
 
 abbrev pub invariant-loop-i : goal.invariant-loop-i

@@ -1,5 +1,4 @@
 -- `circuit::rules::check_gate` meets its contract. Assumes nothing.
-use borrow.Author.Rules.{rules}
 use borrow.Author.Tests.{lt-leb, le-leb}
 use mathlib.Core.Path.{◌∙◌, sym}
 use Rattle.circuit.specs.Rules.{gate_answer}

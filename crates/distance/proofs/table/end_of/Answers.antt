@@ -1,6 +1,5 @@
 -- `end_of` meets its contract: there are 9 sizes of 256 entries.
 use native.Mathlib.Omega.{arith}
-use borrow.Author.Rules.{rules}
 use Rattle.distance.proofs.table.end_of.Goals as goal
 
 pub returns-then-sizes-lt9 : goal.returns-then-sizes-lt9

@@ -1,8 +1,7 @@
 -- `lower_one` meets its contract: the lesser of the two is stored.
 use mathlib.Core.Path.{ap, ◌∙◌}
-use Prim.Native.Nat.{ℕ, ◌+◌, min}
+use Prim.Native.Nat.{◌+◌, min}
 use native.Mathlib.Nat.{zero-add}
-use borrow.Author.Rules.{rules}
 use lib.ListN.{get_or, set}
 use Rattle.distance.specs.Table.{lowered}
 use Rattle.distance.proofs.table.lower_one.Goals as goal

@@ -1,6 +1,5 @@
 -- `no_lines` meets its contract.
 use mathlib.Core.Path.{refl}
-use borrow.Author.Rules.{rules}
 use Rattle.distance.specs.Table.{no_line_numbers}
 use Rattle.distance.proofs.table.no_lines.Goals as goal
 

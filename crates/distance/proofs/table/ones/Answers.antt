@@ -1,11 +1,9 @@
 -- `ones` meets its contract: at i the array has the lines at i and later.
 use mathlib.Core.Path.{◌≡◌}
-use Prim.Native.Nat.{◌-◌, ◌≤◌}
+use Prim.Native.Nat.{◌-◌}
 use native.Mathlib.Omega.{arith}
 use borrow.Author.Rules.{rules}
-use lib.ListN.{length, drop}
-use Rattle.distance.specs.Base.{base_of}
-use Rattle.distance.specs.Table.{Ones}
+use lib.ListN.{length}
 use Rattle.distance.proofs.Search.{lines_end}
 use Rattle.distance.proofs.BySizes.{ones_none, ones_more}
 use Rattle.distance.proofs.table.ones.Goals as goal

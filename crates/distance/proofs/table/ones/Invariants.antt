@@ -1,12 +1,7 @@
-use mathlib.Core.Path.{◌≡◌}
-use Prim.Native.Nat.{◌-◌, ◌≤◌}
-use native.Mathlib.Omega.{arith}
-use borrow.Author.Rules.{rules}
+use Prim.Native.Nat.{◌≤◌}
 use lib.ListN.{length, drop}
 use Rattle.distance.specs.Base.{base_of}
 use Rattle.distance.specs.Table.{Ones}
-use Rattle.distance.proofs.Search.{lines_end}
-use Rattle.distance.proofs.BySizes.{ones_none, ones_more}
 use Rattle.distance.proofs.table.ones.Given as goal
 
 abbrev pub invariant-loop-i : goal.invariant-loop-i

@@ -1,9 +1,5 @@
-use mathlib.Core.List.{List}
-use mathlib.Core.Path.{sym, subst}
-use Prim.Native.Nat.{ℕ, ◌-◌, ◌*◌}
-use native.Mathlib.Omega.{arith}
-use borrow.Author.Rules.{rules}
-use Rattle.distance.proofs.Entries.{Part, part_start, part_four, part_end}
+use Prim.Native.Nat.{◌*◌}
+use Rattle.distance.proofs.Entries.{Part}
 use Rattle.distance.proofs.table.take_into.Given as goal
 
 abbrev pub invariant-loop-q : goal.invariant-loop-q
