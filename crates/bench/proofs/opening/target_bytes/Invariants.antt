@@ -1,0 +1,16 @@
+use mathlib.Core.Path.{◌≡◌, refl, ap, ◌∙◌}
+use mathlib.Core.List.{List}
+use Prim.Native.Nat.{ℕ, ◌≤◌, ◌-◌}
+use native.Mathlib.Omega.{arith}
+use lib.ListN.{length, get_or, set, take}
+use borrow.Author.Rules.{rules}
+use Rattle.circuit.specs.Lines.{padded}
+use Rattle.circuit.specs.Sizes.{most_values}
+use Rattle.circuit.proofs.Padding.{padded_next, padded-all}
+use Rattle.bench.proofs.opening.target_bytes.Given as goal
+
+abbrev pub invariant-loop-i : goal.invariant-loop-i
+invariant-loop-i l = (l.i ≤ length l.bytes) × (l.target ≡ padded most_values 0 (take l.i l.bytes))
+
+abbrev pub decreases-loop-i : goal.decreases-loop-i
+decreases-loop-i l = length l.bytes - l.i
