@@ -1,5 +1,4 @@
 -- `listing::put_counts` meets its contract. Assumes nothing.
-use borrow.Author.Rules.{rules}
 use Rattle.text.proofs.Putting.{is_free, not_free, put_fits, put_short}
 use Rattle.listing.proofs.put_counts.Goals as goal
 

@@ -1,13 +1,10 @@
 -- `listing::put_gates` meets its contract. The invariant: the lines so far are put. Assumes nothing.
 use mathlib.Core.Path.{◌≡◌, ap, ap₂}
-use Prim.Native.Nat.{ℕ, ◌+◌, ◌-◌, ◌*◌, ◌≤◌}
+use Prim.Native.Nat.{ℕ}
 use native.Mathlib.Omega.{arith}
 use borrow.Author.Rules.{rules}
-use lib.ListN.{length}
-use Rattle.circuit.specs.Sizes.{most_gates}
 use Rattle.circuit.specs.Lines.{gate}
 use Rattle.circuit.specs.Structs.{gate_of}
-use Rattle.text.specs.Putting.{Put}
 use Rattle.text.proofs.Putting.{put-none, put_then, put_as}
 use Rattle.listing.specs.Printed.{gate_line, lines_to}
 use Rattle.listing.proofs.Listed.{lines_next}

@@ -1,12 +1,9 @@
 -- `listing::put_outputs` meets its contract. The invariant: the lines so far are put. Assumes nothing.
 use mathlib.Core.Path.{◌≡◌, ap}
-use Prim.Native.Nat.{ℕ, ◌+◌, ◌-◌, ◌*◌, ◌≤◌}
+use Prim.Native.Nat.{ℕ}
 use native.Mathlib.Omega.{arith}
 use borrow.Author.Rules.{rules}
-use lib.ListN.{length}
-use Rattle.circuit.specs.Sizes.{most_outputs}
 use Rattle.circuit.specs.Structs.{out_of}
-use Rattle.text.specs.Putting.{Put}
 use Rattle.text.proofs.Putting.{put-none, put_then, put_as}
 use Rattle.listing.specs.Printed.{output_line, lines_to}
 use Rattle.listing.proofs.Listed.{lines_next}

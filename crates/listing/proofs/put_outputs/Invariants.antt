@@ -1,14 +1,10 @@
-use mathlib.Core.Path.{◌≡◌, ap}
+use mathlib.Core.Path.{◌≡◌}
 use Prim.Native.Nat.{ℕ, ◌+◌, ◌-◌, ◌*◌, ◌≤◌}
-use native.Mathlib.Omega.{arith}
-use borrow.Author.Rules.{rules}
 use lib.ListN.{length}
 use Rattle.circuit.specs.Sizes.{most_outputs}
 use Rattle.circuit.specs.Structs.{out_of}
 use Rattle.text.specs.Putting.{Put}
-use Rattle.text.proofs.Putting.{put-none, put_then, put_as}
 use Rattle.listing.specs.Printed.{output_line, lines_to}
-use Rattle.listing.proofs.Listed.{lines_next}
 use Rattle.listing.proofs.put_outputs.Given as goal
 
 abbrev pub invariant-loop-j : goal.invariant-loop-j

@@ -1,7 +1,6 @@
 -- `listing::put_placed` meets its contract. Assumes nothing.
 use Prim.Native.Nat.{◌≤◌}
 use native.Mathlib.Omega.{arith}
-use borrow.Author.Rules.{rules}
 use lib.ListN.{length}
 use Rattle.text.proofs.Putting.{put_then, is_free, not_free, put_fits, put_short, put_free}
 use Rattle.listing.specs.Printed.{placed_size}
