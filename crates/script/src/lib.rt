@@ -1,4 +1,6 @@
 // The call language: what a line of text calls for. The words that say bytes are given by their places in the line.
+#![tactic(auto)]
+
 ghost use Rattle.script.specs.Reading.{by_word, calls, edit_calls, bytes_calls, order_in};
 ghost use Rattle.script.specs.Placed.{Means};
 ghost use Rattle.script.specs.Cursors.{onward, Second};

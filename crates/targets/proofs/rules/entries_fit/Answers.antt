@@ -1,11 +1,9 @@
 -- `targets::rules::entries_fit` meets its contract. The invariant: the test of the entries left decides. Assumes nothing.
 use borrow.Author.Rules.{rules}
-use mathlib.Core.Path.{◌≡◌, refl, ap, ◌∙◌, sym}
-use Prim.Native.Nat.{ℕ, ◌≤◌, ◌-◌, ◌^◌}
+use mathlib.Core.Path.{refl, ap, ◌∙◌, sym}
+use Prim.Native.Nat.{ℕ, ◌^◌}
 use lib.Dec.{ltb}
-use lib.ListN.{length, drop}
 use borrow.Author.Tests.{not-true, not-false}
-use Rattle.circuit.specs.Rules.{all_of}
 use Rattle.targets.specs.Target.{entry_fits}
 use Rattle.targets.proofs.Fitting.{all_stop, all_next, all_end}
 use Rattle.targets.proofs.rules.entries_fit.Goals as goal

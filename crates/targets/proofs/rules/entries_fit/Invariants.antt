@@ -1,12 +1,8 @@
-use borrow.Author.Rules.{rules}
-use mathlib.Core.Path.{◌≡◌, refl, ap, ◌∙◌, sym}
-use Prim.Native.Nat.{ℕ, ◌≤◌, ◌-◌, ◌^◌}
-use lib.Dec.{ltb}
+use mathlib.Core.Path.{◌≡◌}
+use Prim.Native.Nat.{◌≤◌, ◌-◌}
 use lib.ListN.{length, drop}
-use borrow.Author.Tests.{not-true, not-false}
 use Rattle.circuit.specs.Rules.{all_of}
 use Rattle.targets.specs.Target.{entry_fits}
-use Rattle.targets.proofs.Fitting.{all_stop, all_next, all_end}
 use Rattle.targets.proofs.rules.entries_fit.Given as goal
 
 abbrev pub invariant-loop-i : goal.invariant-loop-i

@@ -1,5 +1,4 @@
 -- `targets::rules::row_fits` meets its contract. Assumes nothing.
-use borrow.Author.Rules.{rules}
 use mathlib.Core.Path.{◌∙◌}
 use Rattle.targets.proofs.Fitting.{row-bit, row_no_bit}
 use Rattle.targets.proofs.rules.row_fits.Goals as goal

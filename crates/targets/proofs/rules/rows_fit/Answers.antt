@@ -2,11 +2,9 @@
 use borrow.Author.Rules.{rules}
 use native.Mathlib.Omega.{arith}
 use mathlib.Core.Path.{◌≡◌, refl, ap, ap₂, ◌∙◌, sym}
-use Prim.Native.Nat.{◌≤◌, ◌-◌}
-use lib.ListN.{get_or, drop}
+use lib.ListN.{get_or}
 use borrow.Author.Tests.{not-true, not-false}
 use Rattle.circuit.specs.Rows.{row, no_row}
-use Rattle.circuit.specs.Rules.{all_of}
 use Rattle.targets.specs.Target.{row_is_sound, rows_in}
 use Rattle.targets.proofs.Bytes.{rows_many, row_read}
 use Rattle.targets.proofs.Fitting.{all_stop, all_next, all_end}

@@ -1,14 +1,8 @@
-use borrow.Author.Rules.{rules}
-use native.Mathlib.Omega.{arith}
-use mathlib.Core.Path.{◌≡◌, refl, ap, ap₂, ◌∙◌, sym}
+use mathlib.Core.Path.{◌≡◌}
 use Prim.Native.Nat.{◌≤◌, ◌-◌}
-use lib.ListN.{get_or, drop}
-use borrow.Author.Tests.{not-true, not-false}
-use Rattle.circuit.specs.Rows.{row, no_row}
+use lib.ListN.{drop}
 use Rattle.circuit.specs.Rules.{all_of}
 use Rattle.targets.specs.Target.{row_is_sound, rows_in}
-use Rattle.targets.proofs.Bytes.{rows_many, row_read}
-use Rattle.targets.proofs.Fitting.{all_stop, all_next, all_end}
 use Rattle.targets.proofs.rules.rows_fit.Given as goal
 
 abbrev pub invariant-loop-j : goal.invariant-loop-j

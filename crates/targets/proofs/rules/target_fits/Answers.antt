@@ -1,5 +1,4 @@
 -- `targets::rules::target_fits` meets its contract. Assumes nothing.
-use borrow.Author.Rules.{rules}
 use native.Mathlib.Omega.{arith}
 use mathlib.Core.Path.{◌∙◌, sym}
 use Rattle.targets.proofs.Fitting.{rows_fit, rows_unfit, too_wide, entries_fit, entries_unfit}

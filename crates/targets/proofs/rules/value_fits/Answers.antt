@@ -1,5 +1,4 @@
 -- `targets::rules::value_fits` meets its contract. Assumes nothing.
-use borrow.Author.Rules.{rules}
 use mathlib.Core.Path.{◌∙◌, sym, ap}
 use mathlib.Core.Bool.{Bool}
 use Rattle.targets.specs.Target.{value_fits}

@@ -4,8 +4,7 @@ use native.Mathlib.Nat.{zero-add}
 use native.Mathlib.Omega.{arith}
 use mathlib.Core.Path.{◌≡◌, refl, ap, ◌∙◌}
 use mathlib.Core.List.{List}
-use Prim.Native.Nat.{ℕ, ◌≤◌, ◌<◌, ◌-◌, ◌+◌, ◌^◌}
-use lib.ListN.{get_or}
+use Prim.Native.Nat.{ℕ, ◌<◌, ◌-◌, ◌+◌, ◌^◌}
 use Rattle.circuit.specs.Gate.{bit}
 use Rattle.circuit.proofs.GateLaws.{bit-lt}
 use Rattle.targets.specs.Wanted.{packed}

@@ -1,14 +1,9 @@
-use borrow.Author.Rules.{rules}
-use native.Mathlib.Nat.{zero-add}
-use native.Mathlib.Omega.{arith}
-use mathlib.Core.Path.{◌≡◌, refl, ap, ◌∙◌}
+use mathlib.Core.Path.{◌≡◌}
 use mathlib.Core.List.{List}
-use Prim.Native.Nat.{ℕ, ◌≤◌, ◌<◌, ◌-◌, ◌+◌, ◌^◌}
+use Prim.Native.Nat.{ℕ, ◌≤◌, ◌-◌, ◌+◌}
 use lib.ListN.{get_or}
 use Rattle.circuit.specs.Gate.{bit}
-use Rattle.circuit.proofs.GateLaws.{bit-lt}
 use Rattle.targets.specs.Wanted.{packed}
-use Rattle.targets.proofs.Packing.{packed_before, packed_fits}
 use Rattle.targets.proofs.wanted.column_word.Given as goal
 
 -- bit j of the entries from one on

@@ -1,5 +1,4 @@
 -- `targets::wanted::column_words` meets its contract. Assumes nothing.
-use borrow.Author.Rules.{rules}
 use mathlib.Core.Path.{◌∙◌}
 use native.Mathlib.Nat.{zero-add}
 use lib.ListN.{get_or}

@@ -1,5 +1,4 @@
 -- `targets::wanted::input_words` meets its contract. Assumes nothing.
-use borrow.Author.Rules.{rules}
 use mathlib.Core.Path.{sym}
 use lib.ListN.{get_or-eq_default}
 use Rattle.circuit.specs.Gate.{no_words}

@@ -2,8 +2,6 @@
 use borrow.Author.Rules.{rules}
 use native.Mathlib.Omega.{arith}
 use mathlib.Core.Path.{◌≡◌, refl, ap, ap₂, ◌∙◌}
-use mathlib.Core.Logic.{⊎_elim}
-use Prim.Native.Nat.{◌≤◌, ◌-◌}
 use Rattle.circuit.specs.Gate.{Kind, words_of}
 use Rattle.circuit.specs.Sizes.{most_inputs}
 use Rattle.targets.specs.Wanted.{mask_words}

@@ -1,5 +1,4 @@
 -- `targets::wanted::wanted_by` meets its contract. Assumes nothing.
-use borrow.Author.Rules.{rules}
 use mathlib.Core.Path.{◌∙◌, sym, ap}
 use mathlib.Core.Bool.{Bool}
 use Rattle.circuit.specs.Sizes.{most_inputs}

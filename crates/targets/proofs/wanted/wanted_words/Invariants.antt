@@ -1,17 +1,12 @@
-use borrow.Author.Rules.{rules}
-use native.Mathlib.Omega.{arith}
-use mathlib.Core.Path.{◌≡◌, refl, ap₂, ◌∙◌}
+use mathlib.Core.Path.{◌≡◌}
 use mathlib.Core.Bool.{Bool}
-use mathlib.Core.Logic.{⊎_elim}
 use mathlib.Core.List.{List}
 use Prim.Native.Nat.{ℕ, ◌≤◌, ◌-◌, min}
-use lib.ListN.{set}
 use Rattle.circuit.specs.declared.Words.{Words}
 use Rattle.circuit.specs.Sizes.{most_inputs, most_outputs}
 use Rattle.circuit.specs.Gate.{no_words}
 use Rattle.circuit.specs.Lines.{upto, padded}
-use Rattle.circuit.proofs.Upto.{upto_put}
-use Rattle.targets.specs.Wanted.{wanted_words, wanted_of, wanted_in}
+use Rattle.targets.specs.Wanted.{wanted_words}
 use Rattle.targets.specs.Target.{target_by}
 use Rattle.targets.proofs.wanted.wanted_words.Given as goal
 

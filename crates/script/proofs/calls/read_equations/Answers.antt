@@ -1,0 +1,16 @@
+-- `calls::read_equations` meets its contract: what the line asks is the same from each word on. Assumes nothing.
+use borrow.Author.Rules.{rules}
+use mathlib.Core.Path.{◌∙◌}
+use Rattle.script.proofs.HexWords.{part_left}
+use Rattle.script.proofs.Meanings.{means_as}
+use Rattle.script.proofs.calls.read_equations.Goals as goal
+
+pub finish-requires : goal.finish-requires
+finish-requires c = (
+  search rules,
+  c.hex_at-bytes.ensures.place,
+  λ e. part_left c.hex_at-bytes.ensures (λ t. c.requires.next) (c.number_at-room.ensures.kept e).0,
+)
+
+pub returns : goal.returns
+returns c = means_as (c.hex_at-bytes.ensures.took.asks _ ∙ c.number_at-room.ensures.asks _) c.finish.ensures
