@@ -1,11 +1,6 @@
-use borrow.Author.Rules.{rules}
-use native.Mathlib.Omega.{arith}
-use mathlib.Core.Path.{◌≡◌, refl, ap, ap₂, ◌∙◌}
-use Prim.Native.Nat.{ℕ, ◌≤◌, ◌-◌}
-use lib.ListN.{get_or}
-use Rattle.circuit.specs.Gate.{Kind, words_of, no_words}
+use mathlib.Core.Path.{◌≡◌}
+use Prim.Native.Nat.{◌≤◌, ◌-◌}
 use Rattle.report.specs.Judged.{differences}
-use Rattle.report.proofs.Differences.{differences-suc}
 use Rattle.report.proofs.differing.Given as goal
 
 abbrev pub invariant-loop-j : goal.invariant-loop-j

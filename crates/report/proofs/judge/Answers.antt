@@ -32,17 +32,15 @@ pub lowest_output-requires : goal.lowest_output-requires
 lowest_output-requires c = let p = inputs (goal.at.lowest_output-requires c).After-struct_known-1 in (omega arith, search rules)
 
 pub returns-then-x-inputs : goal.returns-then-x-inputs
-returns-then-x-inputs c = let d = c.before.before in
-    let f = d.before in
-    let a = f.args in
-    let r = f.lowest_input-x.result in
+returns-then-x-inputs c = let a = c.args in
+    let r = c.lowest_input-x.result in
     let p = inputs (goal.at.returns-then-x-inputs c).After-struct_known-1 in
     ap (λ (j : ℕ). Wrong (record { input = r; output = j })) c.lowest_output.ensures
     ∙ is_wrong a.b a.depth a.ands r (omega arith) ∙ found (goal.at.returns-then-x-inputs c).After-lowest_input-x
 
 -- what each test showed that did not hold: no output differs,
 right : (c : Else-x-inputs) → 2 ^ c.args.b.n ≤ c.lowest_input-x.result
-right c = let p = inputs c.before in omega arith
+right c = let p = shift_is c.args.b.n (omega arith) in let q = pow_mono {i = c.args.b.n} {j = most_inputs} c.requires.0 in omega arith
 
 -- the gates are within their limit,
 few : (c : Else-wide16-b) → let b = c.args.b in b.g ≤ b.max_gates
@@ -53,36 +51,24 @@ flat : (c : Else-wide16-wide) → let a = c.args in a.depth ≤ a.b.max_depth
 flat c = let e = c.wide.ensures.0 in let l = c.wide16-2.ensures.0 in omega arith
 
 pub returns-then-wide16-b : goal.returns-then-wide16-b
-returns-then-wide16-b c = let f = c.before.before.before in
-    let a = f.args in
+returns-then-wide16-b c = let a = c.args in
     let l = c.wide16.ensures.0 in
-    over_gates a.b a.depth a.ands f.lowest_input-x.result (right (goal.at.returns-then-wide16-b c).Else-x-inputs) (omega arith) ∙ found (goal.at.returns-then-wide16-b c).After-lowest_input-x
+    over_gates a.b a.depth a.ands c.lowest_input-x.result (right (goal.at.returns-then-wide16-b c).Else-x-inputs) (omega arith) ∙ found (goal.at.returns-then-wide16-b c).After-lowest_input-x
 
 pub returns-then-wide16-wide : goal.returns-then-wide16-wide
-returns-then-wide16-wide c = let g = c.before in
-    let x = g.before.before.before in
-    let f = x.before.before in
-    let a = f.args in
+returns-then-wide16-wide c = let a = c.args in
     let l = c.wide16-2.ensures.0 in
     let e = c.wide.ensures.0 in
-    over_depth a.b a.depth a.ands f.lowest_input-x.result (right (goal.at.returns-then-wide16-wide c).Else-x-inputs) (few (goal.at.returns-then-wide16-wide c).Else-wide16-b) (omega arith) ∙ found (goal.at.returns-then-wide16-wide c).After-lowest_input-x
+    over_depth a.b a.depth a.ands c.lowest_input-x.result (right (goal.at.returns-then-wide16-wide c).Else-x-inputs) (few (goal.at.returns-then-wide16-wide c).Else-wide16-b) (omega arith) ∙ found (goal.at.returns-then-wide16-wide c).After-lowest_input-x
 
 pub returns-then-wide16-wide-2 : goal.returns-then-wide16-wide-2
-returns-then-wide16-wide-2 c = let d = c.before in
-    let g = d.before.before.before in
-    let x = g.before.before.before in
-    let f = x.before.before in
-    let a = f.args in
+returns-then-wide16-wide-2 c = let a = c.args in
     let l = c.wide16-3.ensures.0 in
     let e = c.wide-2.ensures.0 in
-    over_ands a.b a.depth a.ands f.lowest_input-x.result (right (goal.at.returns-then-wide16-wide-2 c).Else-x-inputs) (few (goal.at.returns-then-wide16-wide-2 c).Else-wide16-b) (flat (goal.at.returns-then-wide16-wide-2 c).Else-wide16-wide) (omega arith) ∙ found (goal.at.returns-then-wide16-wide-2 c).After-lowest_input-x
+    over_ands a.b a.depth a.ands c.lowest_input-x.result (right (goal.at.returns-then-wide16-wide-2 c).Else-x-inputs) (few (goal.at.returns-then-wide16-wide-2 c).Else-wide16-b) (flat (goal.at.returns-then-wide16-wide-2 c).Else-wide16-wide) (omega arith) ∙ found (goal.at.returns-then-wide16-wide-2 c).After-lowest_input-x
 
 pub returns : goal.returns
-returns c = let d = c.before in
-    let g = d.before.before.before in
-    let x = g.before.before.before in
-    let f = x.before.before in
-    let a = f.args in
+returns c = let a = c.args in
     let l = c.wide16-3.ensures.0 in
     let e = c.wide-2.ensures.0 in
-    passes a.b a.depth a.ands f.lowest_input-x.result (right (goal.at.returns c).Else-x-inputs) (few (goal.at.returns c).Else-wide16-b) (flat (goal.at.returns c).Else-wide16-wide) (omega arith) ∙ found (goal.at.returns c).After-lowest_input-x
+    passes a.b a.depth a.ands c.lowest_input-x.result (right (goal.at.returns c).Else-x-inputs) (few (goal.at.returns c).Else-wide16-b) (flat (goal.at.returns c).Else-wide16-wide) (omega arith) ∙ found (goal.at.returns c).After-lowest_input-x

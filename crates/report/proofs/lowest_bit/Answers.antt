@@ -2,18 +2,11 @@
 use borrow.Author.Rules.{rules}
 use native.Mathlib.Omega.{arith}
 use mathlib.Core.Path.{◌≡◌, refl, ◌∙◌, sym}
-use mathlib.Core.Bool.{Bool}
-use Prim.Native.Nat.{ℕ, ◌≤◌, ◌-◌}
-use lib.Dec.{eqb}
 use borrow.Author.Tests.{eq-eqb, ne_eqb}
-use Rattle.circuit.specs.Gate.{bit}
-use Rattle.bench.specs.State.{least}
 use Rattle.report.proofs.Smallest.{least_stop, least_next, least_end}
-use Rattle.report.proofs.Blocks.{lowest, none-lowest}
+use Rattle.report.proofs.Blocks.{none-lowest}
+use Rattle.report.proofs.lowest_bit.Invariants.{isOne}
 use Rattle.report.proofs.lowest_bit.Goals as goal
-
-abbrev isOne : ℕ → ℕ → Bool
-isOne word i = eqb (bit i word) 1
 
 pub returns-then-word-eq0 : goal.returns-then-word-eq0
 returns-then-word-eq0 c = none-lowest c.args.word c.if-word-eq0.true

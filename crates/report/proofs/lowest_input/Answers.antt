@@ -1,5 +1,4 @@
 -- `report::lowest_input` meets its contract: word by word. Assumes nothing.
-use borrow.Author.Rules.{rules}
 use native.Mathlib.Omega.{arith}
 use mathlib.Core.Path.{ap, ◌∙◌, sym}
 use Prim.Native.Nat.{ℕ, ◌+◌}
@@ -33,10 +32,9 @@ overflow_add-result-2 c = let w = c.args.w in
     omega (arith, c.lowest_bit.ensures, least-to (λ (i : ℕ). eqb (bit i w.w3) 1) 64 0)
 
 pub returns : goal.returns
-returns c = let r = c.before in
-    let w = r.args.w in
-    let e = r.lowest_bit-a.ensures in
-    let f = r.lowest_bit-b.ensures in
-    let g = r.lowest_bit-c.ensures in
+returns c = let w = c.args.w in
+    let e = c.lowest_bit-a.ensures in
+    let f = c.lowest_bit-b.ensures in
+    let g = c.lowest_bit-c.ensures in
     ap (λ (r : ℕ). 192 + r) c.lowest_bit.ensures
     ∙ block w 3 ∙ block-past w 2 64 (omega arith) ∙ block-past w 1 128 (omega arith) ∙ block-past w 0 192 (omega arith)

@@ -3,21 +3,16 @@ use borrow.Author.Rules.{rules}
 use borrow.Author.Tests.{eq-eqb, ne_eqb}
 use native.Mathlib.Omega.{arith}
 use mathlib.Core.Path.{◌≡◌, ap, ap₂, ◌∙◌, sym}
-use mathlib.Core.Bool.{Bool, not}
-use Prim.Native.Nat.{ℕ, ◌≤◌, ◌-◌}
+use mathlib.Core.Bool.{not}
+use Prim.Native.Nat.{ℕ, ◌-◌}
 use lib.Dec.{eqb}
 use lib.ListN.{get_or}
 use Rattle.circuit.specs.Gate.{no_words, value_in}
-use Rattle.bench.specs.declared.Bench.{Bench}
 use Rattle.bench.specs.State.{least}
-use Rattle.report.specs.Judged.{differs_in}
 use Rattle.report.proofs.Smallest.{least_stop, least_next, least_end}
+use Rattle.report.proofs.lowest_output.Invariants.{bad}
 use Rattle.report.proofs.lowest_output.Goals as goal
 use Rattle.report.proofs.lowest_output.Goals.{After-value_in-in-loop-j}
-
--- output j differs on input value x
-abbrev bad : Bench → ℕ → ℕ → Bool
-bad b x = differs_in b.values b.outputs b.wanted x
 
 -- what the two calls found
 found : (c : After-value_in-in-loop-j) → let a = c.args in

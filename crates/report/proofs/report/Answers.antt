@@ -10,11 +10,7 @@ use Rattle.circuit.proofs.Shapes.{Shaped}
 use Rattle.bench.proofs.Stood.{standing-shaped}
 use Rattle.report.proofs.Judging.{given, not_given}
 use Rattle.report.proofs.report.Goals as goal
-use Rattle.report.proofs.report.Goals.{Start, Then-is_standing}
-
--- the arrays' lengths
-long : (c : Start) → let b = c.args.bench in (length b.kinds ≡ most_gates) × (length b.outputs ≡ most_outputs)
-long c = search rules
+use Rattle.report.proofs.report.Goals.{Then-is_standing}
 
 -- what the test showed
 ok : (c : Then-is_standing) → let b = c.args.bench in Shaped b.n b.m b.g
@@ -24,7 +20,10 @@ ok c =
 
 -- so the prefixes that are lent lie within the arrays
 within : (c : Then-is_standing) → let b = c.args.bench in (b.g ≤ length b.kinds) × (b.m ≤ length b.outputs)
-within c = let l = long c.before.before in let o = ok c in (omega arith, omega arith)
+within c =
+    let k : length c.args.bench.kinds ≡ most_gates = search rules in
+    let u : length c.args.bench.outputs ≡ most_outputs = search rules in
+    let o = ok c in (omega arith, omega arith)
 
 pub slice_bounds-kinds-end : goal.slice_bounds-kinds-end
 slice_bounds-kinds-end c = (within (goal.at.slice_bounds-kinds-end c).Then-is_standing).0

@@ -1,5 +1,4 @@
 -- `report::value_in` meets its contract. Assumes nothing.
-use borrow.Author.Rules.{rules}
 use native.Mathlib.Omega.{arith}
 use Prim.Native.Nat.{◌-◌}
 use Rattle.report.proofs.Blocks.{value-at}
