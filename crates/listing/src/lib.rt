@@ -1,4 +1,6 @@
 // A circuit as text in a lent room, as the build program and the bench's `show` write it.
+#![tactic(auto)]
+
 ghost use Rattle.std.specs.Prelude.{ℕ, ◌+◌, ◌*◌, ◌<◌, ◌≤◌, length};
 ghost use Rattle.circuit.specs.Sizes.{most_outputs, most_gates, most_lines};
 ghost use Rattle.circuit.specs.Gate.{kind_of};

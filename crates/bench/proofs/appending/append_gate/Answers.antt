@@ -1,5 +1,4 @@
 -- `append_gate`: on a right bench the answer is that of the gate added, and what is left is the bench of the state with it.
-use borrow.Author.Rules.{rules}
 use Rattle.bench.proofs.Appends.{look_fits, append_given}
 use Rattle.bench.proofs.appending.append_gate.Goals as goal
 

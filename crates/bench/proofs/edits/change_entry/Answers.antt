@@ -1,6 +1,5 @@
 -- `bench::edits::change_entry` meets its contract. Assumes nothing.
 use mathlib.Core.Path.{◌≡◌, ◌∙◌, sym, ap, ap₂}
-use borrow.Author.Rules.{rules}
 use Prim.Native.Nat.{◌%◌}
 use Rattle.circuit.specs.declared.Answer.TheVariants.{Done}
 use Rattle.bench.specs.declared.Bench.{Bench}

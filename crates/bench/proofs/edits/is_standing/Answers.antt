@@ -1,5 +1,4 @@
 -- `is_standing`: the shape counts where something is open.
-use borrow.Author.Rules.{rules}
 use Rattle.bench.proofs.edits.is_standing.Goals as goal
 
 pub returns-then-opened : goal.returns-then-opened

@@ -5,7 +5,6 @@ use Prim.Native.Nat.{◌^◌}
 use native.Mathlib.Omega.{arith}
 use lib.Dec.{ltb}
 use borrow.Author.Tests.{lt-ltb, le-ltb}
-use borrow.Author.Rules.{rules}
 use Rattle.circuit.proofs.Shapes.{Shaped}
 use Rattle.bench.specs.Parts.{standing, entry_look}
 use Rattle.bench.proofs.Stood.{standing-shaped}

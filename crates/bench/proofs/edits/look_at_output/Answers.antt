@@ -3,7 +3,6 @@ use mathlib.Core.Path.{◌≡◌, ◌∙◌, sym}
 use mathlib.Core.Bool.{true}
 use native.Mathlib.Omega.{arith}
 use borrow.Author.Tests.{lt-ltb, le-ltb}
-use borrow.Author.Rules.{rules}
 use Rattle.circuit.proofs.Shapes.{Shaped}
 use Rattle.bench.specs.Parts.{standing, output_look}
 use Rattle.bench.proofs.Stood.{standing-shaped}

@@ -4,7 +4,6 @@ use Prim.Native.Nat.{ℕ}
 use native.Mathlib.Nat.{mod-eq_of_lt}
 use native.Mathlib.Omega.{arith}
 use lib.ListN.{set}
-use borrow.Author.Rules.{rules}
 use Rattle.circuit.specs.declared.Answer.TheVariants.{Done}
 use Rattle.bench.specs.Parts.{output_look, unreworked}
 use Rattle.bench.proofs.EditLaws.{OutputFits, output_fits, output_refused, output_done, pointing}

@@ -1,5 +1,4 @@
 -- `bench::edits::refused` meets its contract: the bench as it was, beside the refusal. Assumes nothing.
-use borrow.Author.Rules.{rules}
 use Rattle.bench.proofs.edits.refused.Goals as goal
 
 pub returns : goal.returns

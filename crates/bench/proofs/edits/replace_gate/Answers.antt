@@ -1,5 +1,4 @@
 -- `replace_gate`: on a right bench the answer is the edit's, and what is left is the bench of the state after it.
-use borrow.Author.Rules.{rules}
 use Rattle.bench.proofs.Replacing.{look_fits, gate_given}
 use Rattle.bench.proofs.edits.replace_gate.Goals as goal
 

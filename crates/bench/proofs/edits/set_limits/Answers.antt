@@ -1,6 +1,5 @@
 -- `bench::edits::set_limits` meets its contract. Assumes nothing.
 use mathlib.Core.Path.{◌∙◌, sym}
-use borrow.Author.Rules.{rules}
 use Rattle.circuit.specs.declared.Answer.TheVariants.{Done}
 use Rattle.bench.specs.State.{limits}
 use Rattle.bench.specs.Held.{limited}

@@ -1,7 +1,5 @@
 -- `and_deeper`: the test picks the greater, and a gate counts at most once.
-use borrow.Author.Rules.{rules}
 use native.Mathlib.Omega.{arith}
-use mathlib.Core.Logic.{⊎_elim}
 use Rattle.circuit.specs.Gate.{kind_of}
 use Rattle.circuit.proofs.GateLaws.{counts_once}
 use Rattle.bench.proofs.examine.and_deeper.Goals as goal

@@ -1,11 +1,9 @@
 -- `examine`: the loop keeps `Examining`; every index is one of the lines there may be.
-use borrow.Author.Rules.{rules}
 use mathlib.Core.Path.{refl, ◌∙◌, ap}
-use Prim.Native.Nat.{◌-◌}
 use Rattle.circuit.specs.Structs.{line_in}
 use Rattle.circuit.proofs.Operands.{second_line}
 use Rattle.bench.specs.Parts.{examined_as}
-use Rattle.bench.proofs.Examining.{Examining, examine_start, examine_next, examine_done}
+use Rattle.bench.proofs.Examining.{examine_start, examine_next, examine_done}
 use Rattle.bench.proofs.examine.examine.Goals as goal
 
 pub loop-j-init : goal.loop-j-init

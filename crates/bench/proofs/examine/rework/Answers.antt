@@ -1,8 +1,7 @@
 -- `rework`: the loop keeps `Turn`; a turn stores a line that is reached and leaves one that is not.
 use borrow.Author.Rules.{rules}
 use mathlib.Core.Path.{◌≡◌, refl, sym, ◌∙◌, subst, ap}
-use mathlib.Core.Logic.{⊎_elim}
-use Prim.Native.Nat.{ℕ, suc, ◌-◌, ◌≤◌, ◌<◌, max}
+use Prim.Native.Nat.{suc, ◌≤◌, ◌<◌, max}
 use native.Mathlib.Nat.{mod-eq_of_lt}
 use native.Mathlib.Omega.{arith}
 use Rattle.circuit.specs.declared.Answer.{Answer}
@@ -15,7 +14,7 @@ use Rattle.bench.specs.declared.Edited.{Edited}
 use Rattle.bench.specs.Calls.{no_rework}
 use Rattle.bench.specs.Parts.{regated, Reexamined, Reworked}
 use Rattle.bench.proofs.Regating.{counted}
-use Rattle.bench.proofs.Turn.{Turn, start, hit, miss, done, test_is, moved}
+use Rattle.bench.proofs.Turn.{start, hit, miss, done, test_is, moved}
 use Rattle.bench.proofs.examine.rework.Goals as goal
 use Rattle.bench.proofs.examine.rework.Goals.{In-Done, Start, else-is_reached, then-is_reached}
 

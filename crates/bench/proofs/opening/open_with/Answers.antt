@@ -1,7 +1,6 @@
 -- `bench::opening::open_with` meets its contract. Assumes nothing.
 use mathlib.Core.Path.{◌∙◌, sym, ap, ◌≡◌}
 use mathlib.Core.Bool.{true, false}
-use borrow.Author.Rules.{rules}
 use Rattle.circuit.proofs.Shapes.{Shaped}
 use Rattle.targets.specs.Target.{brought}
 use Rattle.bench.specs.State.{limits}

@@ -1,6 +1,5 @@
 -- `bench::opening::placed` meets its contract. Assumes nothing.
 use mathlib.Core.Path.{◌∙◌}
-use borrow.Author.Rules.{rules}
 use Rattle.bench.specs.State.{limits}
 use Rattle.bench.proofs.OpenLaws.{placed_by}
 use Rattle.bench.proofs.opening.placed.Goals as goal

@@ -1,11 +1,10 @@
 -- `bench::opening::target_bytes` meets its contract. Assumes nothing.
 use mathlib.Core.Path.{◌≡◌, refl, ap, ◌∙◌}
 use mathlib.Core.List.{List}
-use Prim.Native.Nat.{ℕ, ◌≤◌, ◌-◌}
+use Prim.Native.Nat.{ℕ}
 use native.Mathlib.Omega.{arith}
-use lib.ListN.{length, get_or, set, take}
+use lib.ListN.{length, get_or, set}
 use borrow.Author.Rules.{rules}
-use Rattle.circuit.specs.Lines.{padded}
 use Rattle.circuit.specs.Sizes.{most_values}
 use Rattle.circuit.proofs.Padding.{padded_next, padded-all}
 use Rattle.bench.proofs.opening.target_bytes.Goals as goal

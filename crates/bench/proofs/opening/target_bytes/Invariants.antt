@@ -1,12 +1,8 @@
-use mathlib.Core.Path.{◌≡◌, refl, ap, ◌∙◌}
-use mathlib.Core.List.{List}
-use Prim.Native.Nat.{ℕ, ◌≤◌, ◌-◌}
-use native.Mathlib.Omega.{arith}
-use lib.ListN.{length, get_or, set, take}
-use borrow.Author.Rules.{rules}
+use mathlib.Core.Path.{◌≡◌}
+use Prim.Native.Nat.{◌≤◌, ◌-◌}
+use lib.ListN.{length, take}
 use Rattle.circuit.specs.Lines.{padded}
 use Rattle.circuit.specs.Sizes.{most_values}
-use Rattle.circuit.proofs.Padding.{padded_next, padded-all}
 use Rattle.bench.proofs.opening.target_bytes.Given as goal
 
 abbrev pub invariant-loop-i : goal.invariant-loop-i

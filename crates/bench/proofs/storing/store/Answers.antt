@@ -1,6 +1,5 @@
 -- `bench::storing::store` meets its contract. Assumes nothing.
 use mathlib.Core.Path.{◌∙◌, sym, subst}
-use borrow.Author.Rules.{rules}
 use Rattle.circuit.specs.declared.Circuit.{Circuit}
 use Rattle.stored.specs.Writing.{Wrote}
 use Rattle.bench.proofs.StoreLaws.{stored_open, stored_shut}

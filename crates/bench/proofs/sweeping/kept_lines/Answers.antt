@@ -1,10 +1,9 @@
 -- `kept_lines`: after k gates the array lists their lines, and k is how many they are. Assumes nothing.
 use mathlib.Core.Path.{◌≡◌, ◌∙◌, subst}
-use Prim.Native.Nat.{ℕ, ◌-◌, ◌≤◌}
+use Prim.Native.Nat.{ℕ}
 use native.Mathlib.Omega.{arith}
 use native.Mathlib.Nat.{mod-eq_of_lt}
 use borrow.Author.Rules.{rules}
-use Rattle.circuit.specs.Sizes.{most_inputs, most_gates}
 use Rattle.bench.proofs.Places.{Tells}
 use Rattle.bench.proofs.Sweeps.{lines_of, lines_none, lines_next}
 use Rattle.bench.proofs.sweeping.kept_lines.Goals as goal

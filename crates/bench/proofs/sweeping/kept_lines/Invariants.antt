@@ -1,11 +1,7 @@
-use mathlib.Core.Path.{◌≡◌, ◌∙◌, subst}
-use Prim.Native.Nat.{ℕ, ◌-◌, ◌≤◌}
-use native.Mathlib.Omega.{arith}
-use native.Mathlib.Nat.{mod-eq_of_lt}
-use borrow.Author.Rules.{rules}
+use Prim.Native.Nat.{◌-◌, ◌≤◌}
 use Rattle.circuit.specs.Sizes.{most_inputs, most_gates}
 use Rattle.bench.proofs.Places.{Tells}
-use Rattle.bench.proofs.Sweeps.{lines_of, lines_none, lines_next}
+use Rattle.bench.proofs.Sweeps.{lines_of}
 use Rattle.bench.proofs.sweeping.kept_lines.Given as goal
 
 abbrev pub invariant-loop-k : goal.invariant-loop-k
