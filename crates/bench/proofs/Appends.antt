@@ -9,14 +9,14 @@ use native.Mathlib.Numerals.{add-one}
 use native.Mathlib.Omega.{arith}
 use borrow.Author.Tests.{ltb-true, eq-eqb}
 use lib.Dec.{ltb}
-use lib.ListN.{length, get_or, set, take, replicate, length-append, length-map, length-replicate, get_or-append}
+use lib.ListN.{length, get_or, set, take, replicate, length-append, length-replicate, get_or-append}
 use lib.Seq.{get_or_at}
 use Rattle.circuit.specs.declared.Answer.{Answer}
 use Rattle.circuit.specs.declared.Answer.TheVariants.{Done, Refused}
 use Rattle.circuit.specs.declared.Refusal.{Refusal}
 use Rattle.circuit.specs.declared.Refusal.TheVariants.{NothingOpen, Full}
 use Rattle.circuit.specs.Gate.{no_words}
-use Rattle.circuit.specs.Lines.{Gate, Listing, no_gate, gate, gate_at, with_more, reads, lines, any_of, depth_step, and_depth_step, words_step, reach_step, input_words, padded}
+use Rattle.circuit.specs.Lines.{Gate, Listing, no_gate, gate, gate_at, with_more, reads, lines, any_of, depth_step, and_depth_step, words_step, reach_step, input_words}
 use Rattle.circuit.specs.Rules.{unless, gate_answer, listing_answer}
 use Rattle.circuit.specs.Sizes.{most_inputs, most_gates, most_lines, held16}
 use Rattle.circuit.proofs.LineLaws.{made, lines_agree, unreached}
@@ -29,7 +29,7 @@ use Rattle.bench.specs.declared.Edit.{Edit}
 use Rattle.bench.specs.declared.Edited.{Edited}
 use Rattle.bench.specs.State.{State, Sound, Present, nothing, present}
 use Rattle.bench.specs.Held.{empty_bench, full_bench, bench_of, Stands, holding}
-use Rattle.bench.specs.Parts.{entries, examined_as, Agree, regated, HeldBut, Reexamined, standing, append_look, Reworked}
+use Rattle.bench.specs.Parts.{entries, examined_as, regated, HeldBut, Reexamined, standing, append_look, Reworked}
 use Rattle.bench.specs.Calls.{append_answer, appended, after_append, append_edit, readers_of, no_rework, AppendPromise}
 use Rattle.bench.proofs.Standing.{full_examined, full_standing}
 use Rattle.bench.proofs.Stood.{standing-shaped}

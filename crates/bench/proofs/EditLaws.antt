@@ -11,7 +11,6 @@ use Rattle.circuit.specs.declared.Answer.{Answer}
 use Rattle.circuit.specs.declared.Answer.TheVariants.{Done, Refused}
 use Rattle.circuit.specs.declared.Refusal.{Refusal}
 use Rattle.circuit.specs.declared.Refusal.TheVariants.{NotThere, NothingOpen}
-use Rattle.circuit.specs.Lines.{padded}
 use Rattle.circuit.specs.Rules.{unless, out_answer}
 use Rattle.circuit.specs.Sizes.{most_outputs}
 use Rattle.circuit.specs.Structs.{put_outputs, held}
@@ -22,7 +21,7 @@ use Rattle.targets.specs.Wanted.{wanted_of}
 use Rattle.bench.specs.declared.Bench.{Bench}
 use Rattle.bench.specs.declared.Edit.{Edit}
 use Rattle.bench.specs.declared.Edited.{Edited}
-use Rattle.bench.specs.State.{State, Sound, SoundPresent, Present, nothing, present, limits, Limits}
+use Rattle.bench.specs.State.{State, Sound, SoundPresent, Present, nothing, present, Limits}
 use Rattle.bench.specs.Held.{empty_bench, full_bench, bench_of, Stands, recircuited, limited, circuit_of, retargeted}
 use Rattle.bench.specs.Calls.{after, no_rework, output_edit_answer, output_edited, after_output, after_limits, OutputPromise, LimitsPromise}
 use Rattle.bench.specs.Parts.{standing, output_look, unreworked}

@@ -28,7 +28,7 @@ use Rattle.targets.proofs.Bytes.{kind_by, brings, target_short}
 use Rattle.targets.proofs.Wanting.{wanted_padded}
 use Rattle.bench.specs.declared.Bench.{Bench}
 use Rattle.bench.specs.declared.Opened.{Opened}
-use Rattle.bench.specs.State.{Limits, State, Present, limits}
+use Rattle.bench.specs.State.{Limits, State, Present}
 use Rattle.bench.specs.Held.{full_bench, bench_of, Stands, unexamined}
 use Rattle.bench.specs.Calls.{after, open_answer, open_state, after_open, bench_after_open, OpenPromise}
 use Rattle.bench.specs.Parts.{examined_as, examined, placed_of}

@@ -1,6 +1,6 @@
 -- A gate set on the bench of a state, one that is there or the next: what the bench holds then, and that reworking the gate's readers
 -- gives the bench of the new state. Assumes nothing.
-use mathlib.Core.Path.{◌≡◌, refl, ap, ◌∙◌, sym, subst}
+use mathlib.Core.Path.{◌≡◌, ap, ◌∙◌, sym, subst}
 use mathlib.Core.List.{List}
 use Prim.Native.Nat.{ℕ, suc, ◌≤◌, ◌<◌, ◌+◌, ◌%◌, max}
 use native.Mathlib.Nat.{mod-eq_of_lt}
@@ -13,14 +13,14 @@ use Rattle.circuit.specs.declared.Answer.TheVariants.{Done, Refused}
 use Rattle.circuit.specs.declared.Refusal.{Refusal}
 use Rattle.circuit.specs.Gate.{no_words}
 use Rattle.circuit.specs.Lines.{Gate, gate, gate_at, with_gates, reach_step}
-use Rattle.circuit.specs.Sizes.{most_inputs, most_lines, held16}
+use Rattle.circuit.specs.Sizes.{most_lines, held16}
 use Rattle.circuit.specs.Structs.{column, held}
 use Rattle.circuit.proofs.LineLaws.{lines_agree}
 use Rattle.circuit.proofs.RuleLaws.{GateFits, CircuitFits}
 use Rattle.targets.specs.Target.{is_matrix}
 use Rattle.bench.specs.declared.Bench.{Bench}
 use Rattle.bench.specs.declared.Edit.{Edit}
-use Rattle.bench.specs.State.{State, with_circuit, Present, present}
+use Rattle.bench.specs.State.{State, with_circuit, Present}
 use Rattle.bench.specs.Held.{full_bench, bench_of, holding, recircuited}
 use Rattle.bench.specs.Parts.{gate_on, examined_as, AllBelow, Agree, regated, HeldBut, Reexamined}
 use Rattle.bench.specs.Calls.{after, readers_of, reworking, no_rework, edit_by}

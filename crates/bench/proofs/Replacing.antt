@@ -3,7 +3,6 @@ use mathlib.Core.Path.{◌≡◌, refl, ap, ap₂, ◌∙◌, sym, subst}
 use mathlib.Core.Bool.{Bool, true, false, ◌||◌}
 use mathlib.Core.List.{List, [], ◌∷◌, ◌++◌, map}
 use Prim.Native.Nat.{ℕ, zero, suc, ◌≤◌, ◌<◌, ◌+◌, ◌%◌}
-use native.Mathlib.Nat.{mod-eq_of_lt}
 use native.Mathlib.Omega.{arith}
 use borrow.Author.Tests.{ltb-true, eqb-false}
 use lib.Dec.{ltb, eqb}
@@ -17,18 +16,18 @@ use Rattle.circuit.specs.Gate.{no_words}
 use Rattle.circuit.specs.Lines.{Gate, no_gate, gate_at, reads, lines, any_of, depth_step, and_depth_step, words_step, reach_step, input_words, reached, padded, gate, with_gate}
 use Rattle.circuit.specs.Rules.{unless, shaped, gate_answer}
 use Rattle.circuit.specs.Sizes.{most_inputs, most_gates, held16}
-use Rattle.circuit.specs.Structs.{column, held}
+use Rattle.circuit.specs.Structs.{column}
 use Rattle.circuit.proofs.Shapes.{Shaped, past}
 use Rattle.circuit.proofs.Padding.{padded-set}
-use Rattle.circuit.proofs.RuleLaws.{GateFits, gate_fits, GatesDone, OutsDone, CircuitFits, circuit_fits, fits_circuit}
+use Rattle.circuit.proofs.RuleLaws.{GateFits, gate_fits, GatesDone, OutsDone, circuit_fits, fits_circuit}
 use Rattle.targets.specs.Target.{is_matrix}
 use Rattle.bench.specs.declared.Bench.{Bench}
 use Rattle.bench.specs.declared.Edit.{Edit}
 use Rattle.bench.specs.declared.Edited.{Edited}
 use Rattle.bench.specs.State.{State, Sound, SoundPresent, Present, nothing, present}
-use Rattle.bench.specs.Held.{empty_bench, full_bench, bench_of, Stands, holding, recircuited}
-use Rattle.bench.specs.Parts.{gate_on, entries, examined_as, examined, Agree, regated, Reexamined, standing, gate_look, Reworked}
-use Rattle.bench.specs.Calls.{gate_edit_answer, gate_edited, after, after_gate, readers_of, reworking, no_rework, edit_by, gate_edit, GatePromise}
+use Rattle.bench.specs.Held.{empty_bench, full_bench, bench_of, Stands, holding}
+use Rattle.bench.specs.Parts.{entries, examined_as, Agree, regated, Reexamined, standing, gate_look, Reworked}
+use Rattle.bench.specs.Calls.{gate_edit_answer, gate_edited, after, after_gate, readers_of, reworking, no_rework, gate_edit, GatePromise}
 use Rattle.bench.proofs.Standing.{full_examined, full_standing}
 use Rattle.bench.proofs.Setting.{map-set, set_each}
 use Rattle.bench.proofs.Stood.{standing-shaped}

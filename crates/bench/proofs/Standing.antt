@@ -7,7 +7,6 @@ use native.Mathlib.Omega.{arith}
 use lib.ListN.{length, take, replicate, length-replicate, length-take}
 use Rattle.circuit.specs.Gate.{no_words}
 use Rattle.circuit.specs.Lines.{Gate, Listing, gate_at, lines, depth_step, and_depth_step, words_step, input_words, padded, gate}
-use Rattle.circuit.specs.Rules.{shaped}
 use Rattle.circuit.specs.Sizes.{most_inputs, most_lines}
 use Rattle.circuit.proofs.RuleLaws.{gate_fits, CircuitFits, circuit_fits}
 use Rattle.circuit.proofs.LineLaws.{lines_length, lines_agree}

@@ -23,9 +23,9 @@ use Rattle.targets.specs.Target.{is_matrix, target_fits}
 use Rattle.targets.specs.Wanted.{wanted_of}
 use Rattle.bench.specs.declared.Bench.{Bench}
 use Rattle.bench.specs.declared.Edit.{Edit}
-use Rattle.bench.specs.State.{State, with_circuit, Present, Sound}
-use Rattle.bench.specs.Held.{full_bench, bench_of, circuit_of, recircuited, retargeted}
-use Rattle.bench.specs.Calls.{after_sweep, sweep_edit, reworking, no_rework, SweepPromise}
+use Rattle.bench.specs.State.{State, with_circuit, Sound}
+use Rattle.bench.specs.Held.{full_bench, circuit_of, recircuited, retargeted}
+use Rattle.bench.specs.Calls.{reworking, no_rework, SweepPromise}
 use Rattle.bench.specs.Parts.{examined_as, examined}
 use Rattle.bench.proofs.Places.{Tells, tells_none, tells_hit}
 use Rattle.bench.proofs.Standing.{examined_full}

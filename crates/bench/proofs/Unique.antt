@@ -17,7 +17,7 @@ use Rattle.circuit.proofs.Padding.{padded-take}
 use Rattle.targets.specs.Target.{Target, matrix, table, is_matrix, target_bytes, target_fits, Brought, target_by}
 use Rattle.targets.proofs.Bytes.{rows_long, brought-back}
 use Rattle.bench.specs.declared.Bench.{Bench}
-use Rattle.bench.specs.State.{Limits, State, state, Present, nothing, present, Sound, limits}
+use Rattle.bench.specs.State.{Limits, State, state, Present, nothing, present, Sound}
 use Rattle.bench.specs.Held.{empty_bench, full_bench, Stands, circuit_of, limits_of}
 use Rattle.bench.specs.Calls.{View, OpenGiven, GateGiven, OutputGiven, EntryGiven, LimitsGiven, SweepGiven, AppendGiven, ReportGiven, StoreGiven}
 use Rattle.bench.proofs.StoreLaws.{circuit_of_full}

@@ -1,4 +1,6 @@
 // The bench by value: one circuit, one target and three limits, with what is held for each line.
+#![tactic(auto)]
+
 use circuit::{Answer, GATES, LINES, OUTPUTS, Refusal, Tally, VALUES, Words};
 
 pub mod opening; // opening.rt: an empty bench, and opening a circuit with its target and limits

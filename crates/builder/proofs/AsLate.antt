@@ -6,7 +6,7 @@ use Prim.Native.Nat.{ℕ, zero, suc, ◌+◌, ◌-◌, ◌^◌, ◌≤◌, ◌<�
 use native.Mathlib.Decide.{dec_lt}
 use native.Mathlib.Omega.{arith}
 use borrow.Author.Tests.{eq-eqb, le-leb, lt-leb, lt-ltb, le-ltb}
-use lib.Dec.{leb, ltb, eqb}
+use lib.Dec.{leb, ltb}
 use lib.ListN.{length, get_or, take, replicate, length-replicate, replicate-append-replicate}
 use lib.Seq.{take_at}
 use Rattle.circuit.specs.declared.Answer.{Answer}
@@ -17,9 +17,8 @@ use Rattle.circuit.specs.Structs.{no_circuit}
 use Rattle.circuit.specs.Rules.{shaped, unless}
 use Rattle.circuit.proofs.Padding.{pad_read}
 use Rattle.circuit.proofs.Shapes.{past, shape_is}
-use Rattle.distance.specs.Base.{Line, Xor, Reads, Makes, inputs, arriving, weight, load}
+use Rattle.distance.specs.Base.{Line, Xor, Reads, Makes, inputs, arriving}
 use Rattle.distance.proofs.Weight.{arriving-none, load-none}
-use Rattle.builder.specs.declared.Planned.{Planned}
 use Rattle.builder.specs.Rule.{Row, row, rows_of, greedy_circuit}
 use Rattle.builder.specs.Call.{within, built, bad_row, too_heavy, refusal, planned, plan_of}
 use Rattle.builder.specs.Late.{late_built, lists_fit, any_deep, too_late, late_refusal, late_plan_of}

@@ -44,6 +44,7 @@ module _ (ls : List Line) (l : Line) where
   sum_more (r ∷ rs) s a = omega (arith, away_more r a.0.0 s.0 a.0.1, sum_more rs s.1 a.1)
 
   sum_less : (u : Row) (rs : List Row) → SoundRows rs → Alive ls rs → In u rs → away (ls ++ (l ∷ [])) u < away ls u → sum (distances (ls ++ (l ∷ [])) rs) < sum (distances ls rs)
+  sum_less u [] s a i h = elim i [ ]
   sum_less u (r ∷ rs) s a here h = omega (arith, sum_more rs s.1 a.1)
   sum_less u (r ∷ rs) s a (there i) h = omega (arith, away_more r a.0.0 s.0 a.0.1, sum_less u rs s.1 a.1 i h)
 

@@ -20,3 +20,4 @@ pub mod Values
 pub mod Solved
 pub mod AsLate
 pub mod Written
+pub mod SumsOf

@@ -20,10 +20,10 @@ use Rattle.stored.specs.declared.Writing.{Writing}
 use Rattle.stored.specs.declared.Writing.TheVariants.{Written, NotWritten}
 use Rattle.stored.specs.Stored.{stored}
 use Rattle.stored.specs.Writing.{write_answer, room_after, into_room}
-use Rattle.distance.specs.Base.{Line, inputs, arriving}
+use Rattle.distance.specs.Base.{Line, arriving}
 use Rattle.builder.specs.declared.Planned.{Planned}
-use Rattle.builder.specs.Rule.{Row, row, rows_of, taken, xor_gate, greedy_circuit}
-use Rattle.builder.specs.Call.{within, built, planned, Builds, BuildsNumbered}
+use Rattle.builder.specs.Rule.{Row, rows_of, taken, xor_gate, greedy_circuit}
+use Rattle.builder.specs.Call.{planned, Builds, BuildsNumbered}
 use Rattle.builder.specs.Late.{late_built, BuildsLate, BuildsLateNumbered}
 use Rattle.builder.specs.Kept.{PlanWritten}
 use Rattle.builder.proofs.Lists.{rows_length}

@@ -22,7 +22,7 @@ use Rattle.distance.proofs.Tests.{both_cases}
 use Rattle.builder.specs.Rule.{rows_of}
 use Rattle.builder.specs.Call.{bad_row}
 use Rattle.builder.specs.Late.{lists_fit, any_deep, too_late, late_refusal}
-use Rattle.builder.specs.Kept.{Fit, Looking}
+use Rattle.builder.specs.Kept.{Looking}
 
 -- ---- whether a test holds of some entry, from a place on
 module _ {A : Type 0} (f : A → Bool) (xs : List A) (d : A) (i : ℕ) where

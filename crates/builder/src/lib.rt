@@ -1,4 +1,6 @@
 // The builder: from a binary matrix and depth limits to an XOR program, by the greedy rule.
+#![tactic(auto)]
+
 mod first; // first.rt: the table of the inputs
 mod grow; // grow.rt: the steps
 mod look; // look.rt: what is refused

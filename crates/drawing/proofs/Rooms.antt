@@ -5,7 +5,6 @@ use mathlib.Core.List.{List}
 use Prim.Native.Nat.{ℕ, ◌+◌, ◌*◌, ◌≤◌, ◌<◌}
 use native.Mathlib.Omega.{arith}
 use lib.ListN.{length}
-use Rattle.circuit.specs.declared.Circuit.{Circuit}
 use Rattle.circuit.specs.declared.Refusal.{Refusal}
 use Rattle.circuit.specs.declared.Refusal.TheVariants.{Shape, NoRoom}
 use Rattle.circuit.specs.Sizes.{most_outputs, most_gates}
@@ -16,7 +15,7 @@ use Rattle.drawing.specs.declared.Verdict.{Verdict}
 use Rattle.drawing.specs.declared.Verdict.TheVariants.{Sound, Text, Name, Gap}
 use Rattle.drawing.specs.declared.Drawn.TheVariants.{Stored, NotStored}
 use Rattle.drawing.specs.Drawing.{sketch_of, written_as, answer_by, drawn_answer, drawn_bytes, room_drawn, drawn_room}
-use Rattle.drawing.proofs.Writer.{write_any, WrittenAs, write_size, write_refused}
+use Rattle.drawing.proofs.Writer.{write_any, write_size, write_refused}
 
 -- the room afterwards, by the answer
 pub drawn-room : (s room : List ℕ) → drawn_room s room ≡ room_drawn (drawn_answer s (length room)) (drawn_bytes s) room

@@ -1,8 +1,8 @@
 -- The ways from a file to its circuit and to its stored bytes.
 use mathlib.Core.Path.{◌≡◌, refl, sym, ap, ◌∙◌}
-use mathlib.Core.Bool.{Bool, true, false, cond}
+use mathlib.Core.Bool.{Bool, true, false}
 use mathlib.Core.List.{List}
-use Prim.Native.Nat.{ℕ, ◌+◌, ◌-◌, ◌≤◌, ◌<◌}
+use Prim.Native.Nat.{ℕ, ◌-◌, ◌≤◌, ◌<◌}
 use native.Mathlib.Omega.{arith}
 use borrow.Author.Tests.{lt-ltb, le-ltb}
 use lib.ListN.{length, get_or}
@@ -16,15 +16,13 @@ use Rattle.stored.specs.Stored.{stored}
 use Rattle.stored.specs.Writing.{write_answer, room_after, Wrote}
 use Rattle.sheet.specs.declared.Book.{Book}
 use Rattle.sheet.specs.declared.Sheet.{Sheet}
-use Rattle.sheet.specs.declared.Step.{Step}
 use Rattle.sheet.specs.declared.Step.TheVariants.{On, No}
 use Rattle.sheet.specs.declared.Why.{Why}
 use Rattle.sheet.specs.Sheet.{file_of}
 use Rattle.drawing.specs.declared.Verdict.{Verdict}
-use Rattle.drawing.specs.declared.Verdict.TheVariants.{Sound, Text, Name, Gap}
+use Rattle.drawing.specs.declared.Verdict.TheVariants.{Sound, Gap}
 use Rattle.drawing.specs.declared.Sketch.{Sketch}
 use Rattle.drawing.specs.declared.Drawn.{Drawn}
-use Rattle.drawing.specs.declared.Drawn.TheVariants.{Stored, BadText, BadName, NoOutputs, NotStored}
 use Rattle.drawing.specs.Outputs.{out_line, line_or0, top_of, whole_of}
 use Rattle.drawing.specs.Numbering.{shift_of, few_outputs, circuit_of}
 use Rattle.drawing.specs.Drawing.{numbers_in, withheld, sketch_book, sketch_by, sketch_of, written_as, answer_by, drawn_answer, drawn_bytes, room_drawn, drawn_room, EquationsPromise}

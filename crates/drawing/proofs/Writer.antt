@@ -10,7 +10,6 @@ use lib.ListN.{length}
 use Rattle.circuit.specs.declared.Circuit.{Circuit}
 use Rattle.circuit.specs.declared.Refusal.{Refusal}
 use Rattle.circuit.specs.declared.Refusal.TheVariants.{Shape, NoRoom}
-use Rattle.circuit.specs.declared.Answer.TheVariants.{Done}
 use Rattle.circuit.specs.Sizes.{most_outputs, most_gates}
 use Rattle.circuit.specs.Structs.{listed}
 use Rattle.circuit.specs.Rules.{shaped}
@@ -18,7 +17,7 @@ use Rattle.circuit.proofs.Shapes.{shape_is}
 use Rattle.stored.specs.declared.Writing.{Writing}
 use Rattle.stored.specs.declared.Writing.TheVariants.{Written, NotWritten}
 use Rattle.stored.specs.Stored.{stored}
-use Rattle.stored.specs.Writing.{into_room, write_answer}
+use Rattle.stored.specs.Writing.{write_answer}
 use Rattle.stored.proofs.Written.{size_is}
 
 module _ (c : Circuit) where

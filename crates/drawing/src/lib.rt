@@ -1,4 +1,6 @@
 // The circuit of an equation file: its outputs, its lines with as many inputs as it has, and its stored bytes.
+#![tactic(auto)]
+
 ghost use Rattle.std.specs.Prelude.{◌≡◌};
 ghost use Rattle.drawing.specs.Drawing.{withheld, sketch_book, sketch_of, written_as, EquationsPromise};
 

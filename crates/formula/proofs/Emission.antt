@@ -9,7 +9,6 @@ use Rattle.circuit.specs.Sizes.{most_gates}
 use Rattle.formula.specs.declared.Gates.{Gates}
 use Rattle.formula.specs.declared.Tip.{Tip}
 use Rattle.formula.specs.declared.Out.{Out}
-use Rattle.formula.specs.declared.Read.{Read}
 use Rattle.formula.specs.Emit.{gates_with, gates_at, no_gates, add_gate, with_signs, odd_after, invert, failed}
 
 -- x at place k of row i

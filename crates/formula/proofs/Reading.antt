@@ -1,28 +1,27 @@
 -- The ways of the reader's levels, over plain values: what the proof of the cycle cites.
 use mathlib.Core.Path.{◌≡◌, refl, sym, ap, ◌∙◌}
 use mathlib.Core.Bool.{Bool, true, false, cond}
-use mathlib.Core.List.{List, [], ◌∷◌}
+use mathlib.Core.List.{List}
 use Prim.Native.Nat.{ℕ, zero, suc, ◌+◌, ◌-◌, ◌≤◌, ◌<◌}
 use native.Mathlib.Omega.{arith}
-use lib.Dec.{leb, ltb, eqb}
-use lib.ListN.{length, get_or}
+use lib.Dec.{leb, ltb}
+use lib.ListN.{length}
 use Rattle.formula.specs.declared.Gates.{Gates}
 use Rattle.formula.specs.declared.Read.{Read}
-use Rattle.formula.specs.declared.Next.{Next}
 use Rattle.formula.specs.declared.Next.TheVariants.{On, Done}
 use Rattle.formula.specs.declared.Out.{Out}
 use Rattle.formula.specs.declared.Out.TheVariants.{Got, Bad, Unknown}
 use Rattle.formula.specs.declared.Found.{Found}
 use Rattle.formula.specs.declared.Found.TheVariants.{Line, Nothing}
 use Rattle.formula.specs.Sizes.{longest}
-use Rattle.formula.specs.Text.{word_end, in_class, seen, past, skip_of, tildes_of, wrap_with}
-use Rattle.formula.specs.Tree.{Op, And, Xor, Or, sign_of, kind_no, Tree, leaf, neg, bin, Res, got, bad, unk, join_tree, not_tree}
+use Rattle.formula.specs.Text.{word_end, in_class, seen, skip_of, tildes_of, wrap_with}
+use Rattle.formula.specs.Tree.{Op, And, Xor, Or, sign_of, kind_no, Tree, Res, got, bad, unk, join_tree, not_tree}
 use Rattle.formula.specs.Emit.{add_gate, invert, new_line, gates_of, line_of, failed, emitted, join_gate, not_gate, close_gates, next_of}
 use Rattle.formula.specs.Names.{named, name_by}
 use Rattle.formula.specs.Levels.{close_tree, chain, level, bracket, paren_of, not_of, and_of, xor_of, or_of}
 use borrow.Author.Tests.{leb-false}
 use Rattle.formula.proofs.Laws.{past-ge, seen_in}
-use Rattle.formula.specs.declared.Class.TheVariants.{Blank, Tilde, Letter}
+use Rattle.formula.specs.declared.Class.TheVariants.{Blank, Tilde}
 
 -- ---- the code's steps on what a formula made are the formula's
 

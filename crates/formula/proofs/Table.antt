@@ -1,17 +1,14 @@
 -- The ways of a key, of the search in the table and of a name.
-use mathlib.Core.Path.{◌≡◌, refl, sym, ap, ◌∙◌}
+use mathlib.Core.Path.{◌≡◌, refl, sym, ◌∙◌}
 use mathlib.Core.Bool.{Bool, true, false, cond, ◌&&◌, ◌||◌}
-use mathlib.Core.List.{List, [], ◌∷◌}
+use mathlib.Core.List.{List}
 use Prim.Native.Nat.{ℕ, zero, suc, ◌+◌, ◌-◌, ◌≤◌, ◌<◌}
-use native.Mathlib.Numerals.{add-one}
 use native.Mathlib.Omega.{arith}
 use borrow.Author.Tests.{lt-ltb, le-ltb, le-leb, lt-leb, eq-eqb, ne_eqb, ltb-true, ltb-false, eqb-false}
-use lib.Dec.{leb, ltb, eqb}
-use lib.ListN.{length, get_or, drop, drop_of_length-le}
-use lib.Seq.{drop-cons}
+use lib.Dec.{ltb, eqb}
+use lib.ListN.{get_or}
 use Rattle.circuit.proofs.LineLaws.{or-false}
-use Rattle.formula.specs.Text.{seen, in_class}
-use Rattle.formula.proofs.Laws.{seen_in}
+use Rattle.formula.specs.Text.{seen}
 use Rattle.formula.specs.Names.{appended, part_of, find_from, block, in_block, Passed, input_of, or_else, low_key, high_key, few_names, look_up, name_by}
 use Rattle.formula.specs.Text.{skip_of, word_end}
 use Rattle.formula.specs.Sizes.{most_names, longest}
@@ -21,7 +18,6 @@ use Rattle.formula.specs.declared.Read.{Read}
 use Rattle.formula.specs.declared.Out.TheVariants.{Got, Bad, Unknown}
 use Rattle.formula.specs.declared.Found.{Found}
 use Rattle.formula.specs.declared.Found.TheVariants.{Line, Nothing}
-use Rattle.formula.specs.declared.Class.TheVariants.{Letter}
 
 -- ---- a key
 

@@ -2,7 +2,7 @@
 use Rattle.std.specs.Prelude.{Bool, true, false, cond, List, [], ℕ, ◌+◌, leb, ltb, set, get_or, replicate}
 use Rattle.circuit.specs.Sizes.{most_inputs, most_gates}
 use Rattle.formula.specs.Text.{seen, skip_of}
-use Rattle.formula.specs.Tree.{Op, kind_no, Tree, leaf, neg, bin, Res, got, bad, unk}
+use Rattle.formula.specs.Tree.{kind_no, Tree, leaf, neg, bin, Res, got, bad, unk}
 use Rattle.formula.specs.declared.Gates.{Gates}
 use Rattle.formula.specs.declared.Tip.{Tip}
 use Rattle.formula.specs.declared.Answer.{Answer}

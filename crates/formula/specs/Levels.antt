@@ -1,7 +1,7 @@
 -- The reader of a formula: its levels, where nm reads a name at a place.
-use Rattle.std.specs.Prelude.{Bool, true, false, cond, List, ℕ, zero, suc, ◌+◌, ◌-◌, length}
+use Rattle.std.specs.Prelude.{cond, List, ℕ, zero, suc, ◌+◌, ◌-◌, length}
 use Rattle.formula.specs.Text.{seen, skip_of, tildes_of, wrap_with}
-use Rattle.formula.specs.Tree.{Op, And, Xor, Or, sign_of, Tree, Res, got, bad, unk, join_tree, not_tree}
+use Rattle.formula.specs.Tree.{Op, And, Xor, Or, sign_of, Res, got, bad, unk, join_tree, not_tree}
 
 -- a closing bracket after what was found, and the spaces after it
 unfoldable pub close_tree : List ℕ → Res → Res

@@ -1,8 +1,8 @@
 -- Names: x0 to x7, and the table of the names that were set, each by its key and its line.
-use Rattle.std.specs.Prelude.{◌≡◌, Bool, true, false, cond, ◌&&◌, List, [], ◌∷◌, ℕ, zero, suc, ◌+◌, ◌-◌, ◌*◌, ◌%◌, ◌≤◌, ◌<◌, leb, ltb, eqb, get_or}
+use Rattle.std.specs.Prelude.{◌≡◌, Bool, true, false, cond, ◌&&◌, List, ℕ, zero, suc, ◌+◌, ◌-◌, ◌*◌, ◌%◌, ◌≤◌, ◌<◌, leb, ltb, eqb, get_or}
 use Rattle.formula.specs.Sizes.{most_names, longest}
 use Rattle.formula.specs.Text.{seen, skip_of, word_end}
-use Rattle.formula.specs.Tree.{Tree, leaf, Res, got, bad, unk}
+use Rattle.formula.specs.Tree.{leaf, Res, got, bad, unk}
 use Rattle.formula.specs.declared.Found.{Found}
 use Rattle.formula.specs.declared.Found.TheVariants.{Line, Nothing}
 

@@ -139,7 +139,7 @@ fn after_op(s: &[u8], out: Out, op: u8) -> Next
 }
 
 // A bracketed formula, while there is nesting left, or a name.
-#[cycle(read_and_read_not_read_or_read_paren_read_xor)]
+#[cycle(read)]
 fn read_paren(
     s: &[u8],
     low: &[u64; NAMES],
@@ -166,7 +166,7 @@ fn read_paren(
 }
 
 // Any number of ~ before one of those.
-#[cycle(read_and_read_not_read_or_read_paren_read_xor)]
+#[cycle(read)]
 fn read_not(
     s: &[u8],
     low: &[u64; NAMES],
@@ -186,7 +186,7 @@ fn read_not(
 }
 
 // Operands of & from the left.
-#[cycle(read_and_read_not_read_or_read_paren_read_xor)]
+#[cycle(read)]
 fn read_and(
     s: &[u8],
     low: &[u64; NAMES],
@@ -214,7 +214,7 @@ fn read_and(
 }
 
 // Operands of ^ from the left.
-#[cycle(read_and_read_not_read_or_read_paren_read_xor)]
+#[cycle(read)]
 fn read_xor(
     s: &[u8],
     low: &[u64; NAMES],
@@ -243,7 +243,7 @@ fn read_xor(
 
 // Operands of | from the left: a whole formula, over the first n names of the table, with so many levels of brackets left. Its
 // gates go after those in the rows.
-#[cycle(read_and_read_not_read_or_read_paren_read_xor)]
+#[cycle(read)]
 pub fn read_or(
     s: &[u8],
     low: &[u64; NAMES],

@@ -1,4 +1,6 @@
 // Formulas of an equation file, read into gates: names, ~ & ^ | and brackets.
+#![tactic(auto)]
+
 use circuit::GATES;
 
 pub mod text; // text.rt: bytes at places of a text, and runs of them

@@ -1,27 +1,25 @@
 -- The ways of an assignment and of the file's loop.
-use mathlib.Core.Path.{◌≡◌, refl, sym, ap, ◌∙◌}
-use mathlib.Core.Bool.{Bool, true, false, cond}
+use mathlib.Core.Path.{◌≡◌, sym, ap, ◌∙◌}
+use mathlib.Core.Bool.{true, false, cond}
 use mathlib.Core.List.{List}
 use Prim.Native.Nat.{ℕ, zero, suc, ◌+◌, ◌-◌, ◌≤◌, ◌<◌}
 use native.Mathlib.Omega.{arith}
-use borrow.Author.Tests.{lt-ltb, le-ltb, le-leb, lt-leb, leb-false, eq-eqb, ne_eqb}
-use lib.Dec.{leb, ltb, eqb}
+use borrow.Author.Tests.{lt-ltb, le-ltb, le-leb, lt-leb, eq-eqb, ne_eqb}
+use lib.Dec.{leb, eqb}
 use lib.ListN.{length, get_or}
 use Rattle.formula.specs.Sizes.{most_names, longest, nesting}
 use Rattle.formula.specs.Text.{seen, in_class, skip_of, word_end}
-use Rattle.formula.specs.Tree.{Tree, Res, got, bad, unk}
 use Rattle.formula.specs.Emit.{no_gates, emitted}
 use Rattle.formula.specs.Names.{look_up, name_of}
 use Rattle.formula.specs.Levels.{or_of}
 use Rattle.formula.specs.declared.Class.TheVariants.{Blank}
 use Rattle.formula.specs.declared.Gates.{Gates}
 use Rattle.formula.specs.declared.Read.{Read}
-use Rattle.formula.specs.declared.Out.{Out}
 use Rattle.formula.specs.declared.Out.TheVariants.{Got, Bad, Unknown}
 use Rattle.formula.specs.declared.Found.{Found}
 use Rattle.formula.specs.declared.Found.TheVariants.{Line, Nothing}
 use Rattle.formula.proofs.Laws.{past-ge}
-use Rattle.grammar.specs.File.{line_ends, sign_after}
+use Rattle.grammar.specs.File.{line_ends}
 use Rattle.sheet.specs.declared.Book.{Book}
 use Rattle.sheet.specs.declared.Assigned.{Assigned}
 use Rattle.sheet.specs.declared.Sheet.{Sheet}

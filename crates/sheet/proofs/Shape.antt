@@ -1,5 +1,5 @@
 -- What an assignment that was read is.
-use mathlib.Core.Path.{◌≡◌, refl, sym, ap, ◌∙◌}
+use mathlib.Core.Path.{◌≡◌, refl}
 use mathlib.Core.Bool.{Bool, true, false, cond}
 use mathlib.Core.List.{List}
 use Prim.Native.Nat.{ℕ, ◌+◌, ◌-◌, ◌≤◌, ◌<◌}
@@ -7,7 +7,7 @@ use native.Mathlib.Omega.{arith}
 use borrow.Author.Tests.{leb-false, ltb-false}
 use lib.Dec.{leb, ltb}
 use Rattle.formula.specs.Sizes.{most_names, longest, nesting}
-use Rattle.formula.specs.Text.{seen, in_class, skip_of, word_end}
+use Rattle.formula.specs.Text.{seen, in_class, word_end}
 use Rattle.formula.specs.Tree.{Tree, Res, got, bad, unk}
 use Rattle.formula.specs.Emit.{emitted, gates_of, line_of}
 use Rattle.formula.specs.Names.{look_up}
@@ -20,10 +20,8 @@ use Rattle.formula.proofs.Laws.{past-ge}
 use Rattle.formula.proofs.Reading.{Past, name_past, or-past}
 use Rattle.grammar.specs.File.{line_ends, sign_after}
 use Rattle.sheet.specs.declared.Book.{Book}
-use Rattle.sheet.specs.declared.Assigned.{Assigned}
-use Rattle.sheet.specs.declared.Why.TheVariants.{Text, Name}
-use Rattle.sheet.specs.declared.Step.{Step}
-use Rattle.sheet.specs.declared.Step.TheVariants.{On, No}
+use Rattle.sheet.specs.declared.Why.TheVariants.{Text}
+use Rattle.sheet.specs.declared.Step.TheVariants.{On}
 use Rattle.sheet.specs.Sheet.{names_in, stopped, line_ended, targeted, assigning, assign_at}
 
 -- the assignment at p, which goes on at z: a name that is not known yet, =, and a formula

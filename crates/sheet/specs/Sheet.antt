@@ -1,5 +1,5 @@
 -- An equation file: a reader that computes. Each name is set after its formula was read.
-use Rattle.std.specs.Prelude.{Bool, true, false, cond, List, ℕ, zero, suc, ◌+◌, ◌-◌, leb, ltb, eqb, length, get_or, set, replicate}
+use Rattle.std.specs.Prelude.{cond, List, ℕ, zero, suc, ◌+◌, ◌-◌, leb, ltb, eqb, length, get_or, set, replicate}
 use Rattle.formula.specs.Sizes.{most_names, longest, nesting}
 use Rattle.formula.specs.Text.{seen, skip_of, word_end}
 use Rattle.formula.specs.Tree.{Res}

@@ -1,4 +1,6 @@
 // An equation file, read into a table of names and the gates of their formulas; or the place where it cannot be.
+#![tactic(auto)]
+
 ghost use Rattle.std.specs.Prelude.{◌≡◌};
 ghost use Rattle.grammar.specs.File.{line_ends};
 ghost use Rattle.formula.specs.Emit.{gates_at, read_at};

@@ -1,19 +1,16 @@
 -- The theorems of the sweep, of every circuit that is accepted. Assumes nothing.
 use mathlib.Core.Path.{◌≡◌, refl, ap, ap₂, ◌∙◌, sym, subst}
-use mathlib.Core.Bool.{Bool, true, false, ◌||◌, true≢false}
+use mathlib.Core.Bool.{Bool, true, false}
 use mathlib.Core.Logic.{⊎_elim}
 use mathlib.Core.List.{List, [], ◌∷◌, ◌++◌, map, map-map}
 use Prim.Native.Nat.{ℕ, zero, suc, ◌+◌, ◌≤◌, ◌<◌}
 use native.Mathlib.Omega.{arith}
-use lib.Dec.{eqb}
 use lib.ListN.{length, get_or, take, replicate, length-replicate, length-take, length-map}
 use lib.Seq.{take-suc, take-length, length-take-le}
-use borrow.Author.Tests.{lt-ltb, eqb-true, eq-eqb}
 use Rattle.circuit.specs.declared.Answer.TheVariants.{Done}
-use Rattle.circuit.specs.declared.Refusal.TheVariants.{NoLine}
 use Rattle.circuit.specs.Gate.{bit, no_words}
 use Rattle.circuit.specs.Lines.{Gate, Listing, gate, listing, gate_at, no_gate, reads, upto, lines, depths, and_depths, words, depth_of, and_depth_of, inputs_on, input_words, output_on, greatest, truth_step, words_step, depth_step, and_depth_step}
-use Rattle.circuit.specs.Rules.{unless, gate_answer, out_answer, listing_answer}
+use Rattle.circuit.specs.Rules.{gate_answer, listing_answer}
 use Rattle.circuit.proofs.Lists.{map_at}
 use Rattle.circuit.proofs.Shapes.{Shaped, shape_true}
 use Rattle.circuit.proofs.Keep.{Below}
@@ -21,7 +18,7 @@ use Rattle.circuit.proofs.LineLaws.{lines_more, place as place_of}
 use Rattle.circuit.proofs.RuleLaws.{CircuitFits, circuit_fits, fits_circuit, out_below, out_there}
 use Rattle.circuit.proofs.Upto.{upto-length, upto_at}
 use Rattle.sweep.specs.Sweep.{has, used, same_gate, place, joined, renamed, Sweep, to, sweep_to, sweep_of, swept}
-use Rattle.sweep.proofs.SameLaws.{lt-or-le, either, or_right, has_all, has-map, has_below, has_at, map-has, has_other, back_outs, back-reads, back-all, AllBelow, Alike, alike, Firsts, firsts_differ, firsts_before, joined_cases}
+use Rattle.sweep.proofs.SameLaws.{lt-or-le, has_all, has-map, has_below, has_at, map-has, has_other, back_outs, back-reads, back-all, AllBelow, Alike, alike, Firsts, firsts_differ, firsts_before, joined_cases}
 use Rattle.sweep.proofs.FoldLaws.{At, put, placed, turn_kept, new_more, new_input, kept_few, kept_firsts, kept_all, merged, put_reads, kept_from, kept_first, lands, map_below}
 use Rattle.sweep.proofs.Fits.{fits_below, renamed_fits, renamed_same}
 use Rattle.sweep.proofs.Steps.{Fair, alike_makes, line_is, depth_fair, and_fair, truth_fair, words_fair}

@@ -1,4 +1,6 @@
 // The sweep: gates that no output reaches are dropped, gates that are the same are merged, and the numbers closed up.
+#![tactic(auto)]
+
 ghost use Rattle.std.specs.Prelude.{◌≡◌, false, cond, ◌||◌, ℕ, ◌≤◌, max, ◌+◌, eqb, get_or};
 ghost use Rattle.circuit.specs.Gate.{kind_of};
 ghost use Rattle.circuit.specs.Lines.{gate, upto, padded};

@@ -5,7 +5,7 @@ use Rattle.distance.proofs.Refuse.{any_hit, any_miss, any_end}
 use Rattle.distance.proofs.any_from.Goals as goal
 
 pub overflow_cast-xs : goal.overflow_cast-xs
-overflow_cast-xs c = omega (arith, c.shared_slice_known-1.given c.loop-i.i)
+overflow_cast-xs c = omega (arith, c.type_inv.xs c.loop-i.i)
 
 pub returns-then-b-xs : goal.returns-then-b-xs
 returns-then-b-xs c = sym (c.loop-i.invariant ∙ any_hit _ _ _ c.loop-i-test.true c.if-b-xs.true)

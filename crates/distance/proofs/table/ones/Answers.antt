@@ -22,7 +22,7 @@ loop-i-preserved c = let at = c.loop-i in
     let i = at.i in (
       search rules,
       ones_more at.h c.args.masks.now c.args.depths.now i (i - 1) w.result (omega arith) at.invariant.0 c.requires
-          (c.shared_slice_known-in-loop-i-2-1.given (i - 1)).fits w.ensures at.invariant.1 c.lower_one.new.h c.lower_one.ensures,
+          (c.type_inv.masks (i - 1)).fits w.ensures at.invariant.1 c.lower_one.new.h c.lower_one.ensures,
     )
 
 pub returns : goal.returns

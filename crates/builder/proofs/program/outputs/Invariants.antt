@@ -1,0 +1,15 @@
+use mathlib.Core.List.{map}
+use mathlib.Core.Path.{◌≡◌}
+use Prim.Native.Nat.{◌-◌, ◌≤◌}
+use lib.ListN.{length, take}
+use Rattle.circuit.specs.Lines.{padded}
+use Rattle.circuit.specs.Sizes.{most_outputs}
+use Rattle.distance.specs.Base.{base_of}
+use Rattle.builder.specs.Rule.{rows_of, lowest}
+use Rattle.builder.proofs.program.outputs.Given as goal
+
+abbrev pub invariant-loop-i : goal.invariant-loop-i
+invariant-loop-i l = (l.i ≤ length l.rows) × (l.outs ≡ padded most_outputs 0 (take l.i (map (lowest (base_of l.masks l.depths)) (rows_of l.rows l.limits))))
+
+abbrev pub decreases-loop-i : goal.decreases-loop-i
+decreases-loop-i l = l.i-end - l.i

@@ -1,0 +1,10 @@
+use Rattle.formula.specs.Names.{find_from}
+use Prim.Native.Nat.{◌-◌, ◌≤◌}
+use mathlib.Core.Path.{◌≡◌}
+use Rattle.formula.proofs.names.find_among.Given as goal
+
+abbrev pub invariant-loop-i : goal.invariant-loop-i
+invariant-loop-i l = (l.from ≤ l.i) × (find_from l.low l.high l.lines l.a l.b (l.to - l.from) l.from ≡ find_from l.low l.high l.lines l.a l.b (l.to - l.i) l.i)
+
+abbrev pub decreases-loop-i : goal.decreases-loop-i
+decreases-loop-i l = l.to - l.i
