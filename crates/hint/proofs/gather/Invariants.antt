@@ -11,7 +11,7 @@ use Rattle.hint.proofs.gather.Given as goal
 
 abbrev pub invariant-loop-i : goal.invariant-loop-i
 invariant-loop-i l = (l.i ≤ l.count) × (l.taken ≤ l.i)
-    × ◌≡◌ {A = Base} (record { l.masks = l.base_masks; l.depths = l.base_depths; l.lines = l.lines; l.count = l.taken }) (gathered l.masks l.depths l.i)
+    × ◌≡◌ {A = Base} (record { masks = l.base_masks; depths = l.base_depths; lines = l.lines; count = l.taken }) (gathered l.masks l.depths l.i)
 
 abbrev pub decreases-loop-i : goal.decreases-loop-i
 decreases-loop-i l = l.count - l.i
