@@ -1,12 +1,7 @@
-use borrow.Author.Rules.{rules}
-use native.Mathlib.Nat.{mod-eq_of_lt}
-use native.Mathlib.Omega.{arith}
-use mathlib.Core.Path.{◌≡◌, ap, ◌∙◌}
-use mathlib.Core.Logic.{⊎_elim}
+use mathlib.Core.Path.{◌≡◌}
 use Prim.Native.Nat.{◌≤◌, ◌-◌}
 use Rattle.hint.specs.declared.Base.{Base}
 use Rattle.hint.specs.Parts.{gathered}
-use Rattle.hint.proofs.Gathering.{gathered_none, gathered_skip, gathered-put}
 use Rattle.hint.proofs.gather.Given as goal
 
 abbrev pub invariant-loop-i : goal.invariant-loop-i

@@ -1,9 +1,7 @@
 -- `hint::masks_of` meets its contract. The invariant: the array holds the masks so far. Assumes nothing.
 use borrow.Author.Rules.{rules}
 use native.Mathlib.Omega.{arith}
-use Prim.Native.Nat.{◌≤◌, ◌-◌}
-use Rattle.circuit.specs.Sizes.{most_inputs, most_gates}
-use Rattle.hint.proofs.Summing.{SummedTo, summed_start, summed_next, summed_done}
+use Rattle.hint.proofs.Summing.{summed_start, summed_next, summed_done}
 use Rattle.hint.proofs.masks_of.Goals as goal
 
 pub loop-k-init : goal.loop-k-init
