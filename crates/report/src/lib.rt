@@ -1,5 +1,7 @@
 // The report: counts, depths and the verdict, from what is held. Words are compared, 64 inputs at a time; a single input
 // is looked at only where a word differs.
+#![tactic(auto)]
+
 ghost use Rattle.std.specs.Prelude.{◌≡◌, ◌<◌, ◌≤◌, eqb};
 ghost use Rattle.circuit.specs.Gate.{bit, value_in};
 ghost use Rattle.circuit.specs.Sizes.{most_inputs, most_outputs, most_values};

@@ -30,7 +30,7 @@ slice_bounds-all_steps-end c = let e : length c.widened-wide.result ≡ most_out
 pub all_steps-requires : goal.all_steps-requires
 all_steps-requires c = let a = c.args in
     let e = sym (same (goal.at.all_steps-requires c).After-widened-wide) in
-    let t = tabled_all a.rows.now a.limits.now a.start c.requires.fact_1.poised a.h.now c.requires.fact_2 (λ i. (c.shared_slice_known-1.given i).fits) in
+    let t = tabled_all a.rows.now a.limits.now a.start c.requires.fact_1.poised a.h.now c.requires.fact_2 (λ i. (c.type_inv.rows i).fits) in
     record { fact_1 = subst (λ (l : List ℕ). SoFar (base a.start) l a.limits.now a.start) e c.requires.fact_1; fact_2 = subst (λ (l : List ℕ). Tabled l a.limits.now a.start a.h.now) e t }
 
 pub returns : goal.returns

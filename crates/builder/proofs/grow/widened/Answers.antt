@@ -13,7 +13,7 @@ pub loop-i-init : goal.loop-i-init
 loop-i-init c = (search rules, sym (padded-none most_outputs 0))
 
 pub overflow_cast-wide : goal.overflow_cast-wide
-overflow_cast-wide c = omega (arith, (c.shared_slice_known-1.given c.loop-i.i).fits)
+overflow_cast-wide c = omega (arith, (c.type_inv.rows c.loop-i.i).fits)
 
 pub bounds-wide-i : goal.bounds-wide-i
 bounds-wide-i c = omega (arith, c.loop-i-test.true, c.requires)

@@ -12,7 +12,7 @@ pub returns-then-rows-i-eq0 : goal.returns-then-rows-i-eq0
 returns-then-rows-i-eq0 c = sym (c.loop-i.invariant ∙ any_hit (bad_row c.args.n) c.args.rows.now 0 c.loop-i.i c.loop-i-test.true (bad_none c.args.n _ c.if-rows-i-eq0.true))
 
 pub overflow_cast-rows : goal.overflow_cast-rows
-overflow_cast-rows c = omega (arith, (c.shared_slice_known-in-loop-i-2-1.given c.loop-i.i).fits)
+overflow_cast-rows c = omega (arith, (c.type_inv.rows c.loop-i.i).fits)
 
 pub returns-then-end-rows : goal.returns-then-end-rows
 returns-then-end-rows c = sym (c.loop-i.invariant ∙ any_hit (bad_row c.args.n) c.args.rows.now 0 c.loop-i.i c.loop-i-test.true (bad_high c.args.n _ c.if-rows-i-eq0.false (omega (arith, c.power-end.ensures, c.if-end-rows.true))))

@@ -16,7 +16,7 @@ pub loop-i-init : goal.loop-i-init
 loop-i-init c = (search rules, sym (padded-none most_outputs 0))
 
 pub overflow_cast-rows : goal.overflow_cast-rows
-overflow_cast-rows c = omega (arith, (c.shared_slice_known-in-loop-i-1.given c.loop-i.i).fits)
+overflow_cast-rows c = omega (arith, (c.type_inv.rows c.loop-i.i).fits)
 
 pub bounds-limits-i : goal.bounds-limits-i
 bounds-limits-i c = omega (arith, c.loop-i-test.true, c.requires.fact_2)

@@ -1,0 +1,12 @@
+use borrow.Author.Rules.{rules}
+use native.Mathlib.Omega.{arith}
+use Prim.Native.Nat.{◌≤◌, ◌-◌}
+use Rattle.circuit.specs.Sizes.{most_inputs, most_gates}
+use Rattle.hint.proofs.Summing.{SummedTo, summed_start, summed_next, summed_done}
+use Rattle.hint.proofs.masks_of.Given as goal
+
+abbrev pub invariant-loop-k : goal.invariant-loop-k
+invariant-loop-k l = (l.k ≤ l.g) × (l.n ≤ most_inputs) × (l.g ≤ most_gates) × SummedTo l.b l.k l.masks
+
+abbrev pub decreases-loop-k : goal.decreases-loop-k
+decreases-loop-k l = l.g - l.k
