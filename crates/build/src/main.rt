@@ -1,4 +1,6 @@
 // Reads n, m, D and m row bytes from standard input, and writes the XOR program that is built, or the refusal.
+#![tactic(auto)]
+
 ghost use Rattle.std.specs.Prelude.{◌≡◌, true};
 ghost use Rattle.io.specs.Counts.{IsPrefixLen};
 ghost use Rattle.circuit.specs.Rules.{shaped};
