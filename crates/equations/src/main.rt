@@ -1,4 +1,6 @@
 // Reads an equation file from standard input, and writes the stored circuit in hexadecimal digits, or the refusal.
+#![tactic(auto)]
+
 ghost use Rattle.std.specs.Prelude.{◌≡◌, ◌++◌, ◌≤◌, min, length, take};
 ghost use Rattle.io.specs.Counts.{IsPrefixLen};
 ghost use Rattle.text.specs.Numbers.{hex_text, labelled};

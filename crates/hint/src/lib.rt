@@ -1,4 +1,6 @@
 // The hint: how far a row of the open matrix is from the lines of the open circuit, and which of them make it, but for a constant.
+#![tactic(auto)]
+
 ghost use Rattle.std.specs.Prelude.{◌≡◌, ◌≤◌};
 ghost use Rattle.circuit.specs.Sizes.{most_inputs, most_gates, most_lines};
 ghost use Rattle.circuit.specs.Lines.{padded};

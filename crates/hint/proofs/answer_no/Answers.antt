@@ -1,5 +1,4 @@
 -- `hint::answer_no` meets its contract: the number of each answer. Assumes nothing.
-use borrow.Author.Rules.{rules}
 use mathlib.Core.Path.{ap, sym, ◌∙◌}
 use Prim.Native.Nat.{ℕ, ◌+◌}
 use Rattle.hint.specs.Hint.{hint_code}

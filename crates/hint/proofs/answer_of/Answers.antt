@@ -1,5 +1,4 @@
 -- `hint::answer_of` meets its contract: each answer of a query as a hint's. Assumes nothing.
-use borrow.Author.Rules.{rules}
 use mathlib.Core.Path.{ap, sym, ◌∙◌}
 use Rattle.hint.specs.declared.Answer.TheVariants.{Refused}
 use Rattle.hint.specs.Hint.{hint_answer}

@@ -1,5 +1,4 @@
 -- `hint::ask` meets its contract. Assumes nothing.
-use borrow.Author.Rules.{rules}
 use native.Mathlib.Omega.{arith}
 use mathlib.Core.Path.{◌≡◌, ap, ◌∙◌, sym}
 use mathlib.Core.List.{List}
@@ -15,7 +14,7 @@ use Rattle.hint.proofs.ask.Goals.{After-gather-base}
 
 -- the bench
 abbrev on : After-gather-base → Bench
-on c = c.before.before.before.before.before.args.b
+on c = c.args.b
 
 -- what was gathered from it
 based : (c : After-gather-base) → c.gather-base.result ≡ gathered (masks_on (on c)) (on c).depths ((on c).n + (on c).g)
@@ -42,10 +41,8 @@ pub slice_bounds-distance-end-2 : goal.slice_bounds-distance-end-2
 slice_bounds-distance-end-2 c = sym (length-take-le _ _ (within (goal.at.slice_bounds-distance-end-2 c).After-gather-base).1)
 
 pub numbers_of-requires : goal.numbers_of-requires
-numbers_of-requires c = let k = c.before.before.before.before.before.before in
-    found_few (on k) k.args.t k.args.d k.gather-base.result c.distance-found.result k.requires.0 (fits (goal.at.numbers_of-requires c).After-gather-base) (based (goal.at.numbers_of-requires c).After-gather-base) c.distance-found.ensures
+numbers_of-requires c = found_few c.args.b c.args.t c.args.d c.gather-base.result c.distance-found.result c.requires.0 (fits (goal.at.numbers_of-requires c).After-gather-base) (based (goal.at.numbers_of-requires c).After-gather-base) c.distance-found.ensures
 
 pub returns : goal.returns
-returns c = let k = c.before.before.before.before.before.before in
-    asked_is (on k) k.args.t k.args.d k.gather-base.result c.distance-found.result k.requires.0 (fits (goal.at.returns c).After-gather-base) (based (goal.at.returns c).After-gather-base) c.distance-found.ensures
+returns c = asked_is c.args.b c.args.t c.args.d c.gather-base.result c.distance-found.result c.requires.0 (fits (goal.at.returns c).After-gather-base) (based (goal.at.returns c).After-gather-base) c.distance-found.ensures
     c.answer_of.result c.numbers_of.result c.answer_of.ensures c.numbers_of.ensures

@@ -3,9 +3,6 @@ use borrow.Author.Rules.{rules}
 use native.Mathlib.Nat.{mod-eq_of_lt}
 use native.Mathlib.Omega.{arith}
 use mathlib.Core.Path.{◌≡◌, ap, ◌∙◌}
-use mathlib.Core.Logic.{⊎_elim}
-use Prim.Native.Nat.{◌≤◌, ◌-◌}
-use Rattle.hint.specs.declared.Base.{Base}
 use Rattle.hint.specs.Parts.{gathered}
 use Rattle.hint.proofs.Gathering.{gathered_none, gathered_skip, gathered-put}
 use Rattle.hint.proofs.gather.Goals as goal
@@ -17,16 +14,19 @@ loop-i-init c = (search rules, search rules, gathered_none _ _)
 pub loop-i-preserved : goal.loop-i-preserved
 loop-i-preserved c = let i = c.loop-i.i in
     let t = c.loop-i.invariant.2 in
-    elim c.if-depths-i-le15.branch [ then-depths-i-le15 w ↦ (
-      search rules,
-      omega (arith),
-      (λ z. record { masks = w.4 z; depths = w.5 z; lines = w.6 z; count = w.7 z })
-          ∙ gathered-put _ _ i _ _ _ c.loop-i.taken w.3.result w.if-depths-i-le15.true (omega arith) (w.3.ensures ∙ mod-eq_of_lt (omega arith)) t,
-    ) | else-depths-i-le15 w ↦ (
-      search rules,
-      omega (arith),
-      (λ z. record { masks = w.1 z; depths = w.2 z; lines = w.3 z; count = w.4 z }) ∙ t ∙ gathered_skip _ _ i w.if-depths-i-le15.false,
-    ) ]
+    elim c.if-depths-i-le15.branch [
+      | then-depths-i-le15 w ↦ (
+        search rules,
+        omega (arith, w.taken-is),
+        (λ z. record { masks = w.base_masks-is z; depths = w.base_depths-is z; lines = w.lines-is z; count = w.taken-is z })
+            ∙ gathered-put _ _ i _ _ _ c.loop-i.taken w.low16.result w.if-depths-i-le15.true (omega arith) (w.low16.ensures ∙ mod-eq_of_lt (omega arith)) t,
+      )
+      | else-depths-i-le15 w ↦ (
+        search rules,
+        omega (arith, w.taken-is),
+        (λ z. record { masks = w.base_masks-is z; depths = w.base_depths-is z; lines = w.lines-is z; count = w.taken-is z }) ∙ t ∙ gathered_skip _ _ i w.if-depths-i-le15.false,
+      )
+    ]
 
 pub returns : goal.returns
 returns c = let e : c.loop-i.i ≡ c.args.count = omega arith in

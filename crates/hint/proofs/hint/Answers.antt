@@ -1,5 +1,4 @@
 -- `hint::hint` meets its contract, on any bench. Assumes nothing.
-use borrow.Author.Rules.{rules}
 use borrow.Author.Tests.{ltb-true}
 use native.Mathlib.Omega.{arith}
 use mathlib.Core.Path.{◌≡◌, ap, ◌∙◌, sym}
@@ -32,14 +31,11 @@ pub ask-requires : goal.ask-requires
 ask-requires c = let o = ok (goal.at.ask-requires c).Then-is_standing in (o.n_most, o.g_most)
 
 pub returns-then-is_row : goal.returns-then-is_row
-returns-then-is_row c = let r = c.before.before in
-    let o = r.before.before in
-    hint_row o.args.bench o.args.j o.args.d c.ask.result (opened (goal.at.returns-then-is_row c).Then-is_standing) (row (goal.at.returns-then-is_row c).Then-is_row)
-    (c.ask.ensures ∙ ap (λ (t : ℕ). hint_on o.args.bench t o.args.d) c.wide.ensures.0)
+returns-then-is_row c = hint_row c.args.bench c.args.j c.args.d c.ask.result (opened (goal.at.returns-then-is_row c).Then-is_standing) (row (goal.at.returns-then-is_row c).Then-is_row)
+    (c.ask.ensures ∙ ap (λ (t : ℕ). hint_on c.args.bench t c.args.d) c.wide.ensures.0)
 
 pub returns-else-is_row : goal.returns-else-is_row
-returns-else-is_row c = let o = c.before.before in
-    λ p k. c.no_hint.ensures ∙ hint_no-row o.args.bench o.args.j o.args.d (opened (goal.at.returns-else-is_row c).Then-is_standing) (sym c.is_row.ensures ∙ c.if-is_row.false) p k
+returns-else-is_row c = λ p k. c.no_hint.ensures ∙ hint_no-row c.args.bench c.args.j c.args.d (opened (goal.at.returns-else-is_row c).Then-is_standing) (sym c.is_row.ensures ∙ c.if-is_row.false) p k
 
 pub returns-else-is_standing : goal.returns-else-is_standing
 returns-else-is_standing c = λ p k. c.no_hint-else-is_standing.ensures ∙ hint_nothing c.args.bench c.args.j c.args.d (sym c.is_standing.ensures ∙ c.if-is_standing.false) p k

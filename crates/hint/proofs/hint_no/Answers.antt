@@ -1,5 +1,4 @@
 -- `hint::hint_no` meets its contract: the numbers of what `hint` answers. Assumes nothing.
-use borrow.Author.Rules.{rules}
 use mathlib.Core.Path.{ap, ◌∙◌}
 use Rattle.hint.specs.Hint.{hint_numbers}
 use Rattle.hint.proofs.hint_no.Goals as goal

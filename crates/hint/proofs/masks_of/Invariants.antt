@@ -1,8 +1,6 @@
-use borrow.Author.Rules.{rules}
-use native.Mathlib.Omega.{arith}
 use Prim.Native.Nat.{◌≤◌, ◌-◌}
 use Rattle.circuit.specs.Sizes.{most_inputs, most_gates}
-use Rattle.hint.proofs.Summing.{SummedTo, summed_start, summed_next, summed_done}
+use Rattle.hint.proofs.Summing.{SummedTo}
 use Rattle.hint.proofs.masks_of.Given as goal
 
 abbrev pub invariant-loop-k : goal.invariant-loop-k

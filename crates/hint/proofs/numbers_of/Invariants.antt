@@ -1,10 +1,6 @@
-use borrow.Author.Rules.{rules}
-use native.Mathlib.Omega.{arith}
-use mathlib.Core.Path.{◌≡◌, ap, ◌∙◌}
-use Prim.Native.Nat.{ℕ, ◌≤◌, ◌-◌}
-use lib.ListN.{get_or}
+use mathlib.Core.Path.{◌≡◌}
+use Prim.Native.Nat.{◌≤◌, ◌-◌}
 use Rattle.hint.specs.Parts.{numbered}
-use Rattle.hint.proofs.Numbering.{numbered-none, numbered-put}
 use Rattle.hint.proofs.numbers_of.Given as goal
 
 abbrev pub invariant-loop-k : goal.invariant-loop-k

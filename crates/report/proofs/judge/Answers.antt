@@ -14,7 +14,7 @@ use Rattle.bench.specs.State.{least}
 use Rattle.report.specs.Judged.{judged_at, judged}
 use Rattle.report.proofs.Judging.{is_wrong, over_gates, over_depth, over_ands, passes}
 use Rattle.report.proofs.judge.Goals as goal
-use Rattle.report.proofs.judge.Goals.{After-lowest_input-x, After-struct_known-1, Else-wide16-b, Else-wide16-wide, Else-x-inputs}
+use Rattle.report.proofs.judge.Goals.{After-lowest_input-x, Else-wide16-b, Else-wide16-wide, Else-x-inputs}
 
 -- from the input value that was found to the smallest that there is
 found : (c : After-lowest_input-x) → let a = c.args in judged_at a.b a.depth a.ands c.lowest_input-x.result ≡ judged a.b a.depth a.ands
@@ -25,22 +25,22 @@ found c =
     (c.lowest_input-x.ensures ∙ ap (λ (w : Words). least (λ (x : ℕ). eqb (value_in w x) 1) most_values 0) c.differing.ensures)
 
 -- how many input values there are
-inputs : (c : After-struct_known-1) → let n = c.args.b.n in ((1 * 2 ^ n) % 2 ^ 64 ≡ 2 ^ n) × (2 ^ n ≤ most_values)
-inputs c = (shift_is c.args.b.n (omega arith), pow_mono {i = c.args.b.n} {j = most_inputs} c.requires.0)
+inputs : (n : ℕ) → n ≤ most_inputs → ((1 * 2 ^ n) % 2 ^ 64 ≡ 2 ^ n) × (2 ^ n ≤ most_values)
+inputs n h = (shift_is n (omega arith), pow_mono {i = n} {j = most_inputs} h)
 
 pub lowest_output-requires : goal.lowest_output-requires
-lowest_output-requires c = let p = inputs (goal.at.lowest_output-requires c).After-struct_known-1 in (omega arith, search rules)
+lowest_output-requires c = let p = inputs c.args.b.n c.requires.0 in (omega arith, search rules)
 
 pub returns-then-x-inputs : goal.returns-then-x-inputs
 returns-then-x-inputs c = let a = c.args in
     let r = c.lowest_input-x.result in
-    let p = inputs (goal.at.returns-then-x-inputs c).After-struct_known-1 in
+    let p = inputs c.args.b.n c.requires.0 in
     ap (λ (j : ℕ). Wrong (record { input = r; output = j })) c.lowest_output.ensures
     ∙ is_wrong a.b a.depth a.ands r (omega arith) ∙ found (goal.at.returns-then-x-inputs c).After-lowest_input-x
 
 -- what each test showed that did not hold: no output differs,
 right : (c : Else-x-inputs) → 2 ^ c.args.b.n ≤ c.lowest_input-x.result
-right c = let p = shift_is c.args.b.n (omega arith) in let q = pow_mono {i = c.args.b.n} {j = most_inputs} c.requires.0 in omega arith
+right c = let p = inputs c.args.b.n c.requires.0 in omega arith
 
 -- the gates are within their limit,
 few : (c : Else-wide16-b) → let b = c.args.b in b.g ≤ b.max_gates
