@@ -1,6 +1,5 @@
 -- `talk::answer_line` meets its contract. Assumes nothing.
 use mathlib.Core.Path.{◌≡◌, refl, ap, sym, ◌∙◌, subst}
-use borrow.Author.Rules.{rules}
 use Rattle.script.specs.declared.Call.{Call}
 use Rattle.script.specs.Order.{order_of}
 use Rattle.script.specs.Reading.{order_in}
