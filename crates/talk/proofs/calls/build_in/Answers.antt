@@ -2,7 +2,6 @@
 use mathlib.Core.Path.{◌≡◌}
 use native.Mathlib.Omega.{arith}
 use lib.ListN.{length, take, drop}
-use borrow.Author.Rules.{rules}
 use Rattle.script.specs.Order.{bytes_of}
 use Rattle.talk.proofs.Storing.{lent_long}
 use Rattle.talk.proofs.Building.{builds_as, builds_first}

@@ -1,7 +1,6 @@
 -- `talk::calls::distance_parts` meets its contract. Assumes nothing.
 use lib.ListN.{length-take}
 use native.Mathlib.Omega.{arith}
-use borrow.Author.Rules.{rules}
 use Rattle.talk.proofs.calls.distance_parts.Goals as goal
 
 pub slice_bounds-distance-end : goal.slice_bounds-distance-end

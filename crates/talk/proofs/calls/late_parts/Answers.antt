@@ -1,7 +1,6 @@
 -- `talk::calls::late_parts` meets its contract. Assumes nothing.
 use lib.ListN.{length-take}
 use native.Mathlib.Omega.{arith}
-use borrow.Author.Rules.{rules}
 use Rattle.talk.proofs.calls.late_parts.Goals as goal
 
 pub slice_bounds-build_late-end : goal.slice_bounds-build_late-end

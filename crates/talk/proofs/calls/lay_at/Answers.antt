@@ -1,5 +1,4 @@
 -- `talk::calls::lay_at` meets its contract. Assumes nothing.
-use borrow.Author.Rules.{rules}
 use Rattle.talk.proofs.Laying.{bytes_put}
 use Rattle.talk.proofs.calls.lay_at.Goals as goal
 

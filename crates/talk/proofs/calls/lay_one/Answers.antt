@@ -1,6 +1,5 @@
 -- `talk::calls::lay_one` meets its contract. Assumes nothing.
 use native.Mathlib.Omega.{arith}
-use borrow.Author.Rules.{rules}
 use Rattle.talk.proofs.Laying.{bytes_long, laid_first}
 use Rattle.talk.proofs.calls.lay_one.Goals as goal
 

@@ -2,7 +2,6 @@
 use Prim.Native.Nat.{◌+◌, ◌-◌, ◌/◌, ◌≤◌}
 use native.Mathlib.Omega.{arith}
 use lib.ListN.{length}
-use borrow.Author.Rules.{rules}
 use Rattle.talk.proofs.Laying.{bytes_long, laid_end, laid_three}
 use Rattle.talk.proofs.calls.lay_three.Goals as goal
 use Rattle.talk.proofs.calls.lay_three.Goals.{After-lay_two-two}

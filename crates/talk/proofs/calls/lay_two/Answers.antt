@@ -1,6 +1,5 @@
 -- `talk::calls::lay_two` meets its contract. Assumes nothing.
 use native.Mathlib.Omega.{arith}
-use borrow.Author.Rules.{rules}
 use Rattle.talk.proofs.Laying.{bytes_long, laid}
 use Rattle.talk.proofs.calls.lay_two.Goals as goal
 

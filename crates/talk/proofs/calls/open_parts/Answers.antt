@@ -1,7 +1,6 @@
 -- `talk::calls::open_parts` meets its contract. Assumes nothing.
 use lib.ListN.{length-take}
 use native.Mathlib.Omega.{arith}
-use borrow.Author.Rules.{rules}
 use Rattle.talk.proofs.calls.open_parts.Goals as goal
 
 pub slice_bounds-open_matrix-end : goal.slice_bounds-open_matrix-end

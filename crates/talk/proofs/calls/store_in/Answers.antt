@@ -2,7 +2,6 @@
 use mathlib.Core.Path.{◌≡◌}
 use native.Mathlib.Omega.{arith}
 use lib.ListN.{length, take, drop}
-use borrow.Author.Rules.{rules}
 use Rattle.talk.proofs.Storing.{lent_long, stores_first}
 use Rattle.talk.proofs.calls.store_in.Goals as goal
 use Rattle.talk.proofs.calls.store_in.Goals.{After-at_most-lent}

@@ -2,7 +2,6 @@
 use mathlib.Core.Path.{ap, ap₂, ◌∙◌}
 use mathlib.Core.List.{List}
 use Prim.Native.Nat.{ℕ}
-use borrow.Author.Rules.{rules}
 use Rattle.distance.specs.Query.{found_of}
 use Rattle.talk.specs.Texts.{found_text}
 use Rattle.talk.proofs.Telling.{answers}

@@ -1,5 +1,4 @@
 -- `talk::calls::tell_equations` meets its contract. Assumes nothing.
-use borrow.Author.Rules.{rules}
 use Rattle.talk.proofs.Telling.{answers}
 use Rattle.talk.proofs.calls.tell_equations.Goals as goal
 

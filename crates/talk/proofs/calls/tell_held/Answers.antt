@@ -1,5 +1,4 @@
 -- `talk::calls::tell_held` meets its contract. Assumes nothing.
-use borrow.Author.Rules.{rules}
 use Rattle.talk.proofs.Telling.{answers}
 use Rattle.talk.proofs.Holding.{held_is}
 use Rattle.talk.proofs.calls.tell_held.Goals as goal

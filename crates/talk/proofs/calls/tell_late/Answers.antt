@@ -1,5 +1,4 @@
 -- `talk::calls::tell_late` meets its contract. Assumes nothing.
-use borrow.Author.Rules.{rules}
 use Rattle.talk.specs.Words.{built_name}
 use Rattle.talk.proofs.Telling.{answers}
 use Rattle.talk.proofs.calls.tell_late.Goals as goal

@@ -1,5 +1,4 @@
 -- `talk::calls::tell_open` meets its contract. Assumes nothing.
-use borrow.Author.Rules.{rules}
 use Rattle.script.specs.Order.{bytes_of}
 use Rattle.talk.proofs.Telling.{answers_open}
 use Rattle.talk.proofs.calls.tell_open.Goals as goal

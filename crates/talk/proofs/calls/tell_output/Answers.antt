@@ -1,6 +1,5 @@
 -- `talk::calls::tell_output` meets its contract. Assumes nothing.
 use mathlib.Core.Path.{refl}
-use borrow.Author.Rules.{rules}
 use Rattle.bench.specs.State.{Present}
 use Rattle.bench.specs.Calls.{output_edit_answer, no_rework}
 use Rattle.talk.specs.Texts.{edit_text}

@@ -1,5 +1,4 @@
 -- `talk::calls::tell_store` meets its contract. Assumes nothing.
-use borrow.Author.Rules.{rules}
 use Rattle.talk.specs.Words.{stored_name}
 use Rattle.talk.proofs.Telling.{answers}
 use Rattle.talk.proofs.calls.tell_store.Goals as goal

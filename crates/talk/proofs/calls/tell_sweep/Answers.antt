@@ -1,6 +1,5 @@
 -- `talk::calls::tell_sweep` meets its contract. Assumes nothing.
 use mathlib.Core.Path.{refl}
-use borrow.Author.Rules.{rules}
 use Rattle.bench.specs.Calls.{sweep_edit}
 use Rattle.talk.specs.Texts.{edit_text}
 use Rattle.talk.proofs.Telling.{answers_call}

@@ -1,6 +1,5 @@
 -- `talk::calls::tell_unreadable` meets its contract. Assumes nothing.
 use mathlib.Core.Path.{refl}
-use borrow.Author.Rules.{rules}
 use Rattle.talk.proofs.Telling.{answers}
 use Rattle.talk.proofs.calls.tell_unreadable.Goals as goal
 

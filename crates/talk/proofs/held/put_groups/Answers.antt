@@ -1,11 +1,8 @@
 -- `talk::held::put_groups` meets its contract. The invariant: the groups so far are put. Assumes nothing.
 use mathlib.Core.Path.{◌≡◌, ap}
-use Prim.Native.Nat.{◌+◌, ◌-◌, ◌*◌, ◌≤◌}
+use Prim.Native.Nat.{◌+◌}
 use native.Mathlib.Omega.{arith}
 use borrow.Author.Rules.{rules}
-use lib.ListN.{length}
-use Rattle.circuit.specs.Sizes.{most_inputs, most_gates}
-use Rattle.text.specs.Putting.{Put}
 use Rattle.text.proofs.Putting.{put-none, put_then, put_as}
 use Rattle.listing.specs.Printed.{lines_to}
 use Rattle.listing.proofs.Listed.{lines_next}

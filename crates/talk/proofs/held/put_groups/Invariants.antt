@@ -1,13 +1,9 @@
-use mathlib.Core.Path.{◌≡◌, ap}
+use mathlib.Core.Path.{◌≡◌}
 use Prim.Native.Nat.{◌+◌, ◌-◌, ◌*◌, ◌≤◌}
-use native.Mathlib.Omega.{arith}
-use borrow.Author.Rules.{rules}
 use lib.ListN.{length}
 use Rattle.circuit.specs.Sizes.{most_inputs, most_gates}
 use Rattle.text.specs.Putting.{Put}
-use Rattle.text.proofs.Putting.{put-none, put_then, put_as}
 use Rattle.listing.specs.Printed.{lines_to}
-use Rattle.listing.proofs.Listed.{lines_next}
 use Rattle.talk.specs.Saying.{group_in}
 use Rattle.talk.proofs.held.put_groups.Given as goal
 

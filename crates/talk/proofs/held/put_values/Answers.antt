@@ -2,7 +2,6 @@
 use mathlib.Core.Path.{◌≡◌, ap, ◌∙◌, sym}
 use native.Mathlib.Omega.{arith}
 use lib.ListN.{length, take}
-use borrow.Author.Rules.{rules}
 use Rattle.circuit.specs.Gate.{value_in}
 use Rattle.circuit.specs.Lines.{upto}
 use Rattle.circuit.proofs.Upto.{upto-length}

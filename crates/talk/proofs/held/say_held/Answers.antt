@@ -1,8 +1,6 @@
 -- `talk::held::say_held` meets its contract. Assumes nothing.
 use mathlib.Core.Path.{◌≡◌, ap, sym, ◌∙◌}
 use mathlib.Core.Bool.{Bool, true, false, cond, ◌&&◌}
-use mathlib.Core.Logic.{⊎_elim}
-use borrow.Author.Rules.{rules}
 use Rattle.circuit.specs.declared.Refusal.TheVariants.{NothingOpen}
 use Rattle.circuit.specs.Rules.{shaped}
 use Rattle.circuit.proofs.Shapes.{shape_is}

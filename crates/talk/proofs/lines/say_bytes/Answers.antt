@@ -3,7 +3,6 @@ use mathlib.Core.Path.{◌≡◌, ap}
 use Prim.Native.Nat.{ℕ}
 use native.Mathlib.Omega.{arith}
 use lib.ListN.{length, take, length-take}
-use borrow.Author.Rules.{rules}
 use Rattle.text.proofs.Putting.{put_then, put_free}
 use Rattle.talk.specs.Texts.{hex_line}
 use Rattle.talk.proofs.Spoken.{said, said_as}

@@ -1,5 +1,4 @@
 -- `talk::lines::say_drawn` meets its contract. Assumes nothing.
-use borrow.Author.Rules.{rules}
 use Rattle.talk.proofs.lines.say_drawn.Goals as goal
 
 pub returns-in-Stored : goal.returns-in-Stored

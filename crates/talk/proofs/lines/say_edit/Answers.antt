@@ -1,6 +1,5 @@
 -- `talk::lines::say_edit` meets its contract. Assumes nothing.
 use mathlib.Core.Path.{ap, sym}
-use borrow.Author.Rules.{rules}
 use Rattle.circuit.specs.declared.Answer.{Answer}
 use Rattle.talk.specs.Texts.{accepted_text, reworked_text}
 use Rattle.talk.proofs.Spoken.{said_as}

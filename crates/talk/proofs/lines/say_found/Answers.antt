@@ -3,7 +3,6 @@ use mathlib.Core.Path.{◌≡◌, ap, sym, ◌∙◌}
 use mathlib.Core.List.{List, ◌++◌}
 use Prim.Native.Nat.{ℕ}
 use lib.ListN.{take}
-use borrow.Author.Rules.{rules}
 use Rattle.distance.specs.declared.Answer.{Answer}
 use Rattle.distance.specs.declared.Found.{Found}
 use Rattle.text.specs.Numbers.{labelled}

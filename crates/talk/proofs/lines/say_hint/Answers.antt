@@ -3,7 +3,6 @@ use mathlib.Core.Path.{◌≡◌, ap, sym}
 use mathlib.Core.List.{List}
 use Prim.Native.Nat.{ℕ}
 use lib.ListN.{take}
-use borrow.Author.Rules.{rules}
 use Rattle.hint.specs.declared.Answer.{Answer}
 use Rattle.hint.specs.declared.Hinted.{Hinted}
 use Rattle.talk.specs.Texts.{hint_text, hinted_text}

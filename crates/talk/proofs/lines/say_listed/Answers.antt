@@ -1,6 +1,5 @@
 -- `talk::lines::say_listed` meets its contract. Assumes nothing.
 use native.Mathlib.Omega.{arith}
-use borrow.Author.Rules.{rules}
 use Rattle.text.proofs.Putting.{put_then, put_free}
 use Rattle.talk.specs.Texts.{listed_text}
 use Rattle.talk.proofs.Spoken.{said}

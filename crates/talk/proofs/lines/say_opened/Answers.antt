@@ -1,5 +1,4 @@
 -- `talk::lines::say_opened` meets its contract. Assumes nothing.
-use borrow.Author.Rules.{rules}
 use Rattle.talk.proofs.lines.say_opened.Goals as goal
 
 pub returns-in-Done : goal.returns-in-Done

@@ -1,5 +1,4 @@
 -- `talk::lines::say_reported` meets its contract. Assumes nothing.
-use borrow.Author.Rules.{rules}
 use Rattle.talk.proofs.lines.say_reported.Goals as goal
 
 pub returns-in-Given : goal.returns-in-Given

@@ -1,5 +1,4 @@
 -- `talk::lines::say_written` meets its contract. Assumes nothing.
-use borrow.Author.Rules.{rules}
 use Rattle.talk.proofs.lines.say_written.Goals as goal
 
 pub returns-in-Written : goal.returns-in-Written

@@ -1,5 +1,4 @@
 -- `talk::show::say_show` meets its contract. Assumes nothing.
-use borrow.Author.Rules.{rules}
 use Rattle.talk.proofs.show.say_show.Goals as goal
 
 pub returns-in-Given : goal.returns-in-Given

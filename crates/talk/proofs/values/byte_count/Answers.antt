@@ -2,7 +2,6 @@
 use mathlib.Core.Path.{ap}
 use Prim.Native.Nat.{ℕ, ◌+◌, ◌/◌}
 use native.Mathlib.Omega.{arith}
-use borrow.Author.Rules.{rules}
 use Rattle.talk.proofs.Packing.{one_shifted, few_values}
 use Rattle.talk.proofs.values.byte_count.Goals as goal
 

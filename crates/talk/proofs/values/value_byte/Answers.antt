@@ -4,7 +4,6 @@ use Prim.Native.Nat.{ℕ, ◌*◌, ◌/◌, ◌%◌, ◌^◌, ◌<◌}
 use native.Mathlib.Nat.{mod-lt}
 use lib.Pow.{pow_pos}
 use native.Mathlib.Omega.{arith}
-use borrow.Author.Rules.{rules}
 use Rattle.talk.specs.Texts.{value_bits}
 use Rattle.talk.proofs.Packing.{byte_is}
 use Rattle.talk.proofs.values.value_byte.Goals as goal

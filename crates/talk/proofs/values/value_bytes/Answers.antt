@@ -1,11 +1,10 @@
 -- `talk::values::value_bytes` meets its contract. Assumes nothing.
 use mathlib.Core.Path.{◌≡◌, refl, ap, ap₂, ◌∙◌}
 use mathlib.Core.List.{List}
-use Prim.Native.Nat.{ℕ, ◌-◌, ◌≤◌}
+use Prim.Native.Nat.{ℕ}
 use native.Mathlib.Omega.{arith}
 use borrow.Author.Rules.{rules}
 use lib.ListN.{set}
-use Rattle.circuit.specs.Sizes.{most_inputs}
 use Rattle.circuit.specs.Gate.{value_in}
 use Rattle.circuit.specs.Lines.{upto, padded}
 use Rattle.circuit.proofs.Upto.{upto_put}

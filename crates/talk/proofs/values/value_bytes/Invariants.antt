@@ -1,13 +1,8 @@
-use mathlib.Core.Path.{◌≡◌, refl, ap, ap₂, ◌∙◌}
-use mathlib.Core.List.{List}
-use Prim.Native.Nat.{ℕ, ◌-◌, ◌≤◌}
-use native.Mathlib.Omega.{arith}
-use borrow.Author.Rules.{rules}
-use lib.ListN.{set}
+use mathlib.Core.Path.{◌≡◌}
+use Prim.Native.Nat.{◌-◌, ◌≤◌}
 use Rattle.circuit.specs.Sizes.{most_inputs}
 use Rattle.circuit.specs.Gate.{value_in}
 use Rattle.circuit.specs.Lines.{upto, padded}
-use Rattle.circuit.proofs.Upto.{upto_put}
 use Rattle.talk.specs.Texts.{value_bytes, byte_of}
 use Rattle.talk.specs.Saying.{packed_most}
 use Rattle.talk.proofs.values.value_bytes.Given as goal
