@@ -1,4 +1,6 @@
 // Reads n, m, D and m row bytes from standard input, and writes the XOR program that is built, or the refusal.
+#![tactic(auto)]
+
 ghost use Rattle.std.specs.Prelude.{◌≡◌, true};
 ghost use Rattle.io.specs.Counts.{IsPrefixLen};
 ghost use Rattle.circuit.specs.Rules.{shaped};
@@ -9,7 +11,7 @@ ghost use Rattle.build.specs.Answered.{plan_text, answer_text, Fits};
 
 use builder::Planned;
 use circuit::{Answer, Circuit, Refusal, wide};
-use libc::{STDIN_FILENO, STDOUT_FILENO};
+use std::io::{Read, Write};
 
 // Longer than any input that is answered otherwise than by its length: 3 bytes and 255 rows.
 const INPUT: usize = 512;
@@ -64,10 +66,28 @@ fn answer(input: &[u8], out: &mut [u8; ROOM]) -> usize
     }
 }
 
-fn main() {
+// Reads until the room is full, the input ends or a read fails: how many bytes stand first in the room.
+fn read_full(input: &mut impl Read, room: &mut [u8]) -> usize
+    ensures { IsPrefixLen result room.new }
+{
+    let mut count = 0;
+    while count < room.len() {
+        let got = match input.read(&mut room[count..]) {
+            Ok(got) => got,
+            Err(_) => 0,
+        };
+        if got == 0 {
+            return count;
+        }
+        count += got;
+    }
+    count
+}
+
+fn main(rt: HostRuntime) {
     let mut input = [0u8; INPUT];
-    let count = io::read_full(STDIN_FILENO, &mut input);
+    let count = read_full(&mut rt.stdin(), &mut input);
     let mut out = [0u8; ROOM];
     let size = answer(&input[..count], &mut out);
-    io::write_all(STDOUT_FILENO, &out[..size]);
+    let _ = rt.stdout().write_all(&out[..size]);
 }

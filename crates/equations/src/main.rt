@@ -1,4 +1,6 @@
 // Reads an equation file from standard input, and writes the stored circuit in hexadecimal digits, or the refusal.
+#![tactic(auto)]
+
 ghost use Rattle.std.specs.Prelude.{◌≡◌, ◌++◌, ◌≤◌, min, length, take};
 ghost use Rattle.io.specs.Counts.{IsPrefixLen};
 ghost use Rattle.text.specs.Numbers.{hex_text, labelled};
@@ -7,7 +9,7 @@ ghost use Rattle.listing.specs.Printed.{new_line, refused_name};
 ghost use Rattle.equations.specs.Answered.{line_of, column_of, found_text, stored_most, line_in, answer_text};
 
 use drawing::{BAD_NAME, BAD_TEXT, Drawn, NO_OUTPUTS};
-use libc::{STDIN_FILENO, STDOUT_FILENO};
+use std::io::{Read, Write};
 use text::{at_most, put_labelled};
 
 // A file of more bytes than this is unreadable.
@@ -111,10 +113,28 @@ fn answer(file: &[u8], out: &mut [u8; ROOM]) -> usize
     put_drawn(out, file, drawn, &room)
 }
 
-fn main() {
+// Reads until the room is full, the input ends or a read fails: how many bytes stand first in the room.
+fn read_full(input: &mut impl Read, room: &mut [u8]) -> usize
+    ensures { IsPrefixLen result room.new }
+{
+    let mut count = 0;
+    while count < room.len() {
+        let got = match input.read(&mut room[count..]) {
+            Ok(got) => got,
+            Err(_) => 0,
+        };
+        if got == 0 {
+            return count;
+        }
+        count += got;
+    }
+    count
+}
+
+fn main(rt: HostRuntime) {
     let mut input = [0u8; INPUT];
-    let count = io::read_full(STDIN_FILENO, &mut input);
+    let count = read_full(&mut rt.stdin(), &mut input);
     let mut out = [0u8; ROOM];
     let size = answer(&input[..count], &mut out);
-    io::write_all(STDOUT_FILENO, &out[..size]);
+    let _ = rt.stdout().write_all(&out[..size]);
 }

@@ -22,7 +22,7 @@ use Rattle.formula.specs.declared.Found.TheVariants.{Line, Nothing}
 use Rattle.drawing.specs.Numbering.{shift_of}
 use Rattle.meaning.specs.Meaning.{apply, says, operators, worked_kinds, input_count, inputs_read}
 use Rattle.meaning.proofs.Twins.{Lined, name, not, both}
-use Rattle.meaning.proofs.Growth.{Grown, add_grown, invert_grown, new_line, add-count, invert-count, high_after, use_is, high_input, high_known}
+use Rattle.meaning.proofs.Growth.{Grown, add_grown, invert_grown, new_line_is, add-count, invert-count, high_after, use_is, high_input, high_known}
 use Rattle.meaning.proofs.Values.{op_truth, op_kind, Fit, shift_low, shift_below, Ready, two_done, not_done, value_at, input_held, After, fit_after, after_trans, ready_after, recount, after_grown, new_held}
 
 -- how many gates there are after a formula: past the most that there is room for the count goes on by one
@@ -100,7 +100,7 @@ module _ (s : List ℕ) (look : ℕ → ℕ → Found) (n : ℕ) (few : n ≤ mo
   module _ (g : Gates) (y : Ready n few g) (room : g.count < most_gates) where
     grown_step : (h : Gates) (k a b : ℕ) → Grown g h (gate k a b) → gate_answer false (n + g.count) (gate k (shift_of n a) (shift_of n b)) ≡ Done → Step g h k a b (new_line g.count)
     grown_step h k a b w d =
-        let e = new_line g.count room in
+        let e = new_line_is g.count room in
         record {
           after = after_grown n few x g h (gate k a b) y.up y.sound w d;
           line = rw e (λ l. absurd (omega arith), omega (arith, w.count));

@@ -63,9 +63,9 @@ module _ (g : Gates) (sized : Sized g) (room : g.count < most_gates) where
   invert_grown a = rw (lt-ltb _ _ room) (added_grown 6 a 0 false (odd_after g.fold g.odd))
 
 -- the line of the next gate
-pub new_line : (k : ℕ) → k < most_gates → new_line k ≡ k + most_inputs
+pub new_line_is : (k : ℕ) → k < most_gates → new_line k ≡ k + most_inputs
 unfolding new_line
-new_line k h = rw (lt-ltb _ _ h)
+new_line_is k h = rw (lt-ltb _ _ h)
 
 -- ---- counts, where there is room and where there is none
 

@@ -1,4 +1,6 @@
 // A line of the call language on a bench: the bench after it, and the answer's bytes first in a lent room.
+#![tactic(auto)]
+
 ghost use Rattle.script.specs.Reading.{order_in};
 ghost use Rattle.talk.specs.Talk.{Answers};
 

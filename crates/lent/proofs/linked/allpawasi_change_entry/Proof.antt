@@ -1,4 +1,5 @@
 -- `lent::linked::allpawasi_change_entry` meets its contract: it does with the bench that is lent what the form by value does. Assumes nothing.
+use mathlib.Core.Path.{refl}
 use mir.Syntax.{w64}
 use Rattle.coded.specs.Coded.{EntryCode}
 use Rattle.coded.proofs.change_entry.Symbol as inner
@@ -10,8 +11,7 @@ use Rattle.lent.specs.contracts.linked.allpawasi_change_entry.Key.{name}
 use Rattle.lent.proofs.linked.allpawasi_change_entry.Code as code
 use Rattle.lent.proofs.linked.allpawasi_change_entry.Statement.{statement}
 
-pub allpawasi-change-entry-spec : {M : Type 1} → statement M
-unfolding code.routine
-allpawasi-change-entry-spec 𝓤 𝓛 𝓜 𝓡 =
+pub allpawasi_change_entry_spec : {M : Type 1} → statement M
+allpawasi_change_entry_spec 𝓤 𝓛 𝓜 𝓡 wired =
     edited_by edited_numbers (number w64 (number w64 (number w64 none))) (λ _ p a r q. EntryCode p a.0 a.1.0 a.1.1.0 r q) 𝓛 𝓜 𝓡
-    code.env name inner.name inner.routine (code.unfolded 𝓤 𝓛.H 𝓜 𝓡) code.calls-coded::change-entry (met 𝓤 𝓛 𝓜 𝓡)
+    𝓡.env name inner.name (𝓡.env inner.name) (code.unfolded 𝓤 𝓛.H 𝓜 𝓡 wired) refl (met 𝓤 𝓛 𝓜 𝓡 (code.calls-coded::change_entry 𝓡.env wired))

@@ -1,0 +1,22 @@
+-- `talk::calls::build_in` meets its contract. Assumes nothing.
+use mathlib.Core.Path.{◌≡◌}
+use native.Mathlib.Omega.{arith}
+use lib.ListN.{length, take, drop}
+use Rattle.script.specs.Order.{bytes_of}
+use Rattle.talk.proofs.Storing.{lent_long}
+use Rattle.talk.proofs.Building.{builds_as, builds_first}
+use Rattle.talk.proofs.calls.build_in.Goals as goal
+use Rattle.talk.proofs.calls.build_in.Goals.{After-at_most-lent}
+
+-- how long the lent part is
+size : (m : After-at_most-lent) → length (take m.at_most-lent.result m.args.room.now) ≡ m.at_most-lent.result
+size m = lent_long m.args.q.room m.args.room.now m.at_most-lent.ensures m.requires.1
+
+pub slice_bounds-build-end-3 : goal.slice_bounds-build-end-3
+slice_bounds-build-end-3 c = omega (arith, size (goal.at.slice_bounds-build-end-3 c).After-at_most-lent)
+
+pub returns : goal.returns
+returns c = let w = c.build in
+    let a = c.args in
+    builds_first a.q.n (bytes_of a.line.now a.q.rows) a.q.d a.q.room c.at_most-lent.result (take c.at_most-lent.result a.room.now) (drop c.at_most-lent.result a.room.now) _ w.result
+    c.at_most-lent.ensures (size (goal.at.returns c).After-at_most-lent) (builds_as c.lay_one-end.ensures.bytes w.ensures)

@@ -1,0 +1,9 @@
+-- `talk::lines::say_number` meets its contract. Assumes nothing.
+use native.Mathlib.Omega.{arith}
+use borrow.Author.Rules.{rules}
+use Rattle.text.proofs.Putting.{put_then, put_free}
+use Rattle.talk.proofs.Spoken.{said}
+use Rattle.talk.proofs.lines.say_number.Goals as goal
+
+pub returns : goal.returns
+returns c = said (search rules) (put_then (omega arith) (put_free (omega arith) c.put_labelled-end.ensures) (put_free (omega arith) c.put.ensures))
