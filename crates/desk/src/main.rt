@@ -1,4 +1,6 @@
 // The program a person works the bench with: reads calls from standard input, a line each, and answers each as it comes.
+#![tactic(auto)]
+
 ghost use Rattle.std.specs.Prelude.{◌+◌, ◌≤◌, length};
 
 use bench::Bench;
