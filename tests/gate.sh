@@ -29,15 +29,15 @@ package() {
 # a house in the current folder; `rt ci` runs the stub rt-ci, and so on
 house() {
     local well='echo "test result: ok. 3 passed; 0 failed; 0 ignored"'
-    mkdir -p bin bindings/c bindings/rust/examples tests
+    mkdir -p bin bindings/c bindings/rust/examples crates/{lent_c,build,equations,desk} tests
     cp -r "$gate" .
     echo 'from C' >bindings/c/example.out
     echo 'from Rust' >bindings/rust/examples/morning.out
     echo 'exit 0' >tests/script.sh
-    stub rt 'exec "$0-$1" "${@:2}"'
+    stub rt 'exec "$0-$1"'
     stub rt-ci 'echo "5 passed, 0 failed"'
-    stub rt-lib 'mkdir -p "crates/$1/out" && echo library >"crates/$1/out/lib$1.a"'
-    stub rt-run 'mkdir -p "crates/$1/out" && echo program >"crates/$1/out/$1"'
+    stub rt-lib 'mkdir -p out && echo library >"out/lib${PWD##*/}.a"'
+    stub rt-run 'mkdir -p out && echo program >"out/${PWD##*/}"'
     stub cargo 'exec "$0-$1"'
     stub cargo-test 'source ./cargo-test'
     stub cargo-run 'echo "from Rust"'

@@ -1,4 +1,6 @@
 // The calls by value with numbers for answers, as other languages take them: 0 or the refusal's number, and the counts.
+#![tactic(auto)]
+
 ghost use Rattle.std.specs.Prelude.{◌≡◌, true, false};
 ghost use Rattle.circuit.specs.Rules.{answer_no};
 ghost use Rattle.targets.specs.Target.{brought};

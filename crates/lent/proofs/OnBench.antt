@@ -53,6 +53,8 @@ opened = record {
   Den = Opened;
   parts = (D₁.struct).as_values;
   one = (D₁.the_type).to_one;
+  cover = (D₁.the_type).cover;
+  propositions = (D₁.the_type).propositions;
 }
 
 abbrev pub opened_number : Shape
@@ -72,6 +74,8 @@ opened_number = record {
   Den = OpenedNumbers;
   parts = (D₃.struct).as_values;
   one = (D₃.the_type).to_one;
+  cover = (D₃.the_type).cover;
+  propositions = (D₃.the_type).propositions;
 }
 
 -- an edit answers an `Edit`, or its numbers
@@ -92,6 +96,8 @@ edited = record {
   Den = Edited;
   parts = (D₂.struct).as_values;
   one = (D₂.the_type).to_one;
+  cover = (D₂.the_type).cover;
+  propositions = (D₂.the_type).propositions;
 }
 
 abbrev pub edited_numbers : Shape
@@ -111,6 +117,8 @@ edited_numbers = record {
   Den = EditedNumbers;
   parts = (D₄.struct).as_values;
   one = (D₄.the_type).to_one;
+  cover = (D₄.the_type).cover;
+  propositions = (D₄.the_type).propositions;
 }
 
 -- a report, and its numbers

@@ -1,6 +1,5 @@
 -- `coded::answer_no` meets its contract: 0, or the refusal's number. Assumes nothing.
 use mathlib.Core.Path.{ap, sym, ◌∙◌}
-use borrow.Author.Rules.{rules}
 use Rattle.circuit.specs.Rules.{answer_no}
 use Rattle.coded.proofs.answer_no.Goals as goal
 

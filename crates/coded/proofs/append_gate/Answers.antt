@@ -1,5 +1,4 @@
 -- `coded::append_gate` meets its contract. Assumes nothing.
-use borrow.Author.Rules.{rules}
 use Rattle.bench.specs.State.{Present}
 use Rattle.bench.specs.Calls.{append_edit, after_append}
 use Rattle.coded.proofs.Coding.{edit-coded}

@@ -1,5 +1,4 @@
 -- `coded::change_entry` meets its contract. Assumes nothing.
-use borrow.Author.Rules.{rules}
 use Rattle.bench.specs.State.{Present}
 use Rattle.bench.specs.Calls.{no_rework, entry_edit_answer, after_entry}
 use Rattle.coded.proofs.Coding.{edit-coded}

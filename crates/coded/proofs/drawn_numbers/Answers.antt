@@ -1,7 +1,6 @@
 -- `coded::drawn_numbers` meets its contract. Assumes nothing.
 use mathlib.Core.Path.{ap, sym, ◌∙◌}
 use Prim.Native.Nat.{ℕ}
-use borrow.Author.Rules.{rules}
 use Rattle.coded.specs.declared.ReadingNumbers.{ReadingNumbers}
 use Rattle.coded.specs.Coded.{drawn_code}
 use Rattle.coded.proofs.drawn_numbers.Goals as goal

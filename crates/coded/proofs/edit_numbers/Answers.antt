@@ -1,7 +1,6 @@
 -- `coded::edit_numbers` meets its contract. Assumes nothing.
 use mathlib.Core.Path.{ap}
 use Prim.Native.Nat.{ℕ}
-use borrow.Author.Rules.{rules}
 use Rattle.coded.specs.declared.Edited.{Edited}
 use Rattle.coded.specs.Coded.{edit_coded}
 use Rattle.coded.proofs.edit_numbers.Goals as goal

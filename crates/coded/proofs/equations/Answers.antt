@@ -1,6 +1,5 @@
 -- `coded::equations` meets its contract. Assumes nothing.
 use mathlib.Core.Path.{ap, ◌∙◌}
-use borrow.Author.Rules.{rules}
 use Rattle.coded.specs.Coded.{drawn_code}
 use Rattle.coded.proofs.equations.Goals as goal
 

@@ -1,6 +1,5 @@
 -- `coded::open_matrix` meets its contract. Assumes nothing.
 use mathlib.Core.Bool.{true}
-use borrow.Author.Rules.{rules}
 use Rattle.targets.specs.Target.{brought}
 use Rattle.bench.specs.State.{limits}
 use Rattle.coded.proofs.Coding.{open-coded}

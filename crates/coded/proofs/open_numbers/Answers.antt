@@ -1,7 +1,6 @@
 -- `coded::open_numbers` meets its contract. Assumes nothing.
 use mathlib.Core.Path.{ap}
 use Prim.Native.Nat.{ℕ}
-use borrow.Author.Rules.{rules}
 use Rattle.coded.specs.declared.Opened.{Opened}
 use Rattle.coded.specs.Coded.{open_coded}
 use Rattle.coded.proofs.open_numbers.Goals as goal

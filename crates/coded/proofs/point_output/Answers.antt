@@ -1,5 +1,4 @@
 -- `coded::point_output` meets its contract. Assumes nothing.
-use borrow.Author.Rules.{rules}
 use Rattle.bench.specs.State.{Present}
 use Rattle.bench.specs.Calls.{no_rework, output_edit_answer, after_output}
 use Rattle.coded.proofs.Coding.{edit-coded}

@@ -1,5 +1,4 @@
 -- `coded::replace_gate` meets its contract. Assumes nothing.
-use borrow.Author.Rules.{rules}
 use Rattle.bench.specs.State.{Present}
 use Rattle.bench.specs.Calls.{gate_edit, after_gate}
 use Rattle.coded.proofs.Coding.{edit-coded}

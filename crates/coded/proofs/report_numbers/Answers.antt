@@ -1,5 +1,4 @@
 -- `coded::report_numbers` meets its contract. Assumes nothing.
-use borrow.Author.Rules.{rules}
 use Rattle.coded.proofs.report_numbers.Goals as goal
 
 pub returns : goal.returns

@@ -1,5 +1,4 @@
 -- `coded::set_limits` meets its contract. Assumes nothing.
-use borrow.Author.Rules.{rules}
 use Rattle.bench.specs.State.{Present, limits}
 use Rattle.bench.specs.Calls.{no_rework, limits_answer, after_limits}
 use Rattle.coded.proofs.Coding.{edit-coded}

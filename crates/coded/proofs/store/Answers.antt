@@ -1,6 +1,5 @@
 -- `coded::store` meets its contract. Assumes nothing.
 use mathlib.Core.Path.{◌∙◌, ap}
-use borrow.Author.Rules.{rules}
 use Rattle.stored.specs.Writing.{writing_code}
 use Rattle.coded.proofs.store.Goals as goal
 

@@ -1,5 +1,4 @@
 -- `coded::sweep` meets its contract. Assumes nothing.
-use borrow.Author.Rules.{rules}
 use Rattle.bench.specs.Calls.{sweep_edit, after_sweep}
 use Rattle.coded.proofs.Coding.{edit-coded}
 use Rattle.coded.proofs.sweep.Goals as goal

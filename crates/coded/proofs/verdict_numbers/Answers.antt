@@ -1,6 +1,5 @@
 -- `coded::verdict_numbers` meets its contract. Assumes nothing.
 use mathlib.Core.Path.{ap, sym}
-use borrow.Author.Rules.{rules}
 use Rattle.coded.specs.Coded.{verdict_code}
 use Rattle.coded.proofs.verdict_numbers.Goals as goal
 

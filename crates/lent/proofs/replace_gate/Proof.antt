@@ -1,0 +1,17 @@
+-- `lent::replace_gate` meets its contract: it does with the bench that is lent what the form by value does. Assumes nothing.
+use mathlib.Core.Path.{refl}
+use mir.Syntax.{w64}
+use Rattle.bench.specs.Calls.{GatePromise}
+use Rattle.bench.proofs.edits.replace_gate.Symbol as inner
+use Rattle.bench.proofs.edits.replace_gate.Met.{met}
+use Rattle.lending.proofs.Further.{none, number}
+use Rattle.lending.proofs.Edits.{edited_by}
+use Rattle.lent.proofs.OnBench.{edited}
+use Rattle.lent.specs.contracts.replace_gate.Key.{name}
+use Rattle.lent.proofs.replace_gate.Code as code
+use Rattle.lent.proofs.replace_gate.Statement.{statement}
+
+pub replace_gate_spec : {M : Type 1} → statement M
+replace_gate_spec 𝓤 𝓛 𝓜 𝓡 wired =
+    edited_by edited (number w64 (number w64 (number w64 (number w64 none)))) (λ _ p a r q. GatePromise p a.0 a.1.0 a.1.1.0 a.1.1.1.0 r q) 𝓛 𝓜 𝓡
+    𝓡.env name inner.name (𝓡.env inner.name) (code.unfolded 𝓤 𝓛.H 𝓜 𝓡 wired) refl (met 𝓤 𝓛 𝓜 𝓡 (code.calls-bench::edits::replace_gate 𝓡.env wired))
