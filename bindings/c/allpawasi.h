@@ -1,6 +1,6 @@
 /* Allpawasi for C: the circuit bench, the builder, the distance query, hints and the reader of equation files, as the proved static library has them.
  *
- * Link target/staticlib/liblent.a (`rt staticlib lent`). A `const uint8_t *` and the length after it name bytes that may be read; a `uint8_t *` and a length name a room
+ * Link target/staticlib/liblent.a (`.ci/link lent`). A `const uint8_t *` and the length after it name bytes that may be read; a `uint8_t *` and a length name a room
  * that may be written. Where a length is 0 the pointer is not followed, but it must not be null: pass any valid address.
  *
  * A bench is lent to each call and changed where it stands. A bench of zeros has nothing open:

@@ -1,4 +1,4 @@
-// Links the static library that `rt staticlib lent` writes.
+// Links the static library that `.ci/link lent` writes.
 fn main() {
     let here = std::env::var("CARGO_MANIFEST_DIR").expect("cargo sets it");
     println!("cargo:rustc-link-search=native={here}/../../target/staticlib");
