@@ -1,4 +1,6 @@
 // The outer calls, on a bench that is lent to be changed where it stands. Each is thin: the form by value does the work.
+#![tactic(auto)]
+
 ghost use Rattle.std.specs.Prelude.{true, false};
 ghost use Rattle.targets.specs.Target.{brought};
 ghost use Rattle.bench.specs.State.{limits};
