@@ -2,37 +2,36 @@
 -- changes nothing; and that the freed gates can be added again at the end, up to 248 and no further.
 use mathlib.Core.Path.{◌≡◌, refl, sym, ap, ap₂, ◌∙◌, subst}
 use mathlib.Core.Bool.{Bool, true, false, cond, not}
-use mathlib.Core.Logic.{◌↔◌, ◌⊎◌, inl, inr, ⊎_elim}
+use mathlib.Core.Logic.{◌↔◌, ⊎_elim}
 use mathlib.Core.List.{List, [], ◌∷◌, ◌++◌, map, append_assoc, append-nil, Memᴰ}
 use Prim.Native.Nat.{ℕ, zero, suc, ◌+◌, ◌-◌, ◌^◌, ◌≤◌, ◌<◌}
 use native.Mathlib.Omega.{arith}
 use native.Mathlib.Numerals.{add-one}
 use borrow.Author.Tests.{lt-ltb, le-ltb, ltb-true, ltb-false}
 use lib.Dec.{ltb, eqb}
-use lib.ListN.{length, get_or, take, replicate, length-append, length-replicate, get_or-eq_default}
+use lib.ListN.{length, get_or, take, replicate, length-replicate, get_or-eq_default}
 use Rattle.circuit.specs.declared.Refusal.TheVariants.{Full}
 use Rattle.circuit.specs.declared.Answer.{Answer}
 use Rattle.circuit.specs.declared.Answer.TheVariants.{Done, Refused}
 use Rattle.circuit.specs.Gate.{no_words}
-use Rattle.circuit.specs.Lines.{Gate, Listing, gate, no_gate, gate_at, with_gates, with_more, reads, lines, depth_step, and_depth_step, words_step, input_words, depths, and_depths, output_on, depth_of, and_depth_of, counts_of, padded}
+use Rattle.circuit.specs.Lines.{Gate, Listing, gate, no_gate, gate_at, with_gates, with_more, lines, depth_step, and_depth_step, words_step, input_words, depths, and_depths, output_on, counts_of, padded}
 use Rattle.circuit.specs.Rules.{unless, gate_answer}
 use Rattle.circuit.specs.Sizes.{most_gates, most_lines}
 use Rattle.circuit.proofs.LineLaws.{lines_agree, lines_length, lines_one, place}
 use Rattle.circuit.proofs.Padding.{pad_read}
 use Rattle.circuit.proofs.RuleLaws.{GatesDone, circuit_fits}
 use Rattle.stored.specs.Stored.{stored}
-use Rattle.sweep.specs.Sweep.{used, other_way, same_gate, to, sweep_of, swept}
+use Rattle.sweep.specs.Sweep.{used, swept}
 use Rattle.sweep.proofs.SameLaws.{Alike, same_alike}
 use Rattle.sweep.proofs.Theorems as sweeps
 use Rattle.sweep.proofs.Reaching.{used_exactly}
 use Rattle.targets.specs.Target.{is_matrix, wants, as_brought}
 use Rattle.bench.specs.declared.Bench.{Bench}
 use Rattle.bench.specs.declared.Edit.{Edit}
-use Rattle.bench.specs.declared.Verdict.{Verdict}
 use Rattle.bench.specs.declared.Verdict.TheVariants.{Wrong, OverGates, OverDepth, OverAndDepth, Pass}
-use Rattle.bench.specs.State.{Limits, limits, State, with_circuit, with_limits, Sound, SoundPresent, Present, nothing, present, differs, least, first_output, first_input, verdict_at, verdict_of, report_of}
+use Rattle.bench.specs.State.{limits, State, with_circuit, with_limits, Sound, Present, present, differs, least, first_output, first_input, verdict_of, report_of}
 use Rattle.bench.specs.Held.{empty_bench, full_bench, bench_of, Stands}
-use Rattle.bench.specs.Calls.{after, open_answer, after_sweep, sweep_edit, append_answer, appended, append_edit, places_from, size_of, readers_of, reworking, edit_by, SweepPromise, AppendPromise}
+use Rattle.bench.specs.Calls.{after, open_answer, after_sweep, sweep_edit, append_answer, appended, append_edit, places_from, readers_of, reworking, edit_by, SweepPromise, AppendPromise}
 use Rattle.bench.specs.Run.{Call, present_from, present_after, Runs}
 use Rattle.bench.specs.Run.Call.{sweeping, appending}
 use Rattle.bench.proofs.Appends.{one_more, others_same, appended_reaches}
