@@ -13,6 +13,6 @@ for edit in crates/*/must-fail/*.edit wrong-answers/*/*.edit; do
     done <"$edit"
 done
 standing() { ls crates/*/must-fail/*.edit wrong-answers/*/*.edit | sed -E 's|crates/(.*)/must-fail/(.*).edit|\1 \2, gate|; s|wrong-answers/(.*)/(.*).edit|\1 \2|'; }
-named() { sed -nE 's/^\| ([a-z]+) \|.*\| `([a-z0-9_]+)`(, gate)? \|.*\|.*\|$/\1 \2\3/p' docs/WRONG-ANSWERS.md; }
+named() { sed -nE 's/^\| ([a-z_]+) \|.*\| `([a-z0-9_]+)`(, gate)? \|.*\|.*\|$/\1 \2\3/p' docs/WRONG-ANSWERS.md; }
 diff <(standing | sort) <(named | sort) || status=1
 exit $status

@@ -1,4 +1,4 @@
-// What other languages link: the outer calls on a lent bench, with numbers for answers. A bench of zeros has nothing open.
+// The outer calls on a lent bench, with numbers for answers: what `lent_c` exports to other languages. A bench of zeros has nothing open.
 ghost use Rattle.std.specs.Prelude.{◌≡◌, true, false};
 ghost use Rattle.stored.specs.Writing.{Restored};
 ghost use Rattle.distance.specs.Query.{found_of, found_code};
