@@ -16,18 +16,18 @@ loop-i-init c = (search rules, search rules, search rules, refl)
 
 pub returns-then-x-lt48 : goal.returns-then-x-lt48
 returns-then-x-lt48 c = let s = c.args.s.now in
-    num_is s c.loop-i.invariant.2 (num_low _ s _ _ c.loop-i-test.true (sym c.wide64-x.ensures.0) c.if-x-lt48.true ∙ c.loop-i.invariant.3)
+    num_is s c.loop-i.invariant.2 (num_low _ s _ _ c.loop-i-test.true (sym c.wide64-x.ensures.0) (omega (arith, c.if-x-lt48.true)) ∙ c.loop-i.invariant.3)
 
 pub returns-then-x-gt57 : goal.returns-then-x-gt57
 returns-then-x-gt57 c = let s = c.args.s.now in
-    num_is s c.loop-i.invariant.2 (num_high _ s _ _ c.loop-i-test.true (sym c.wide64-x.ensures.0) c.if-x-gt57.true ∙ c.loop-i.invariant.3)
+    num_is s c.loop-i.invariant.2 (num_high _ s _ _ c.loop-i-test.true (sym c.wide64-x.ensures.0) (omega (arith, c.if-x-gt57.true)) ∙ c.loop-i.invariant.3)
 
 pub returns-then-acc-gt1844674407370955161 : goal.returns-then-acc-gt1844674407370955161
 returns-then-acc-gt1844674407370955161 c = let s = c.args.s.now in
     let x = c.wide64-x.result in
     let big : 2 ^ 64 ≤ c.loop-i.acc * 10 + (x - 48) = omega arith in
     num_is s c.loop-i.invariant.2
-    (sym (num_step _ s _ _ c.loop-i-test.true (sym c.wide64-x.ensures.0) c.if-x-lt48.false c.if-x-gt57.false
+    (sym (num_step _ s _ _ c.loop-i-test.true (sym c.wide64-x.ensures.0) (omega (arith, c.if-x-lt48.false)) (omega (arith, c.if-x-gt57.false))
     ∙ num_big _ _ big) ∙ c.loop-i.invariant.3)
 
 pub returns-then-d-t : goal.returns-then-d-t
@@ -35,7 +35,7 @@ returns-then-d-t c = let s = c.args.s.now in
     let x = c.wide64-x.result in
     let big : 2 ^ 64 ≤ c.loop-i.acc * 10 + (x - 48) = omega arith in
     num_is s c.loop-i.invariant.2
-    (sym (num_step _ s _ _ c.loop-i-test.true (sym c.wide64-x.ensures.0) c.if-x-lt48.false c.if-x-gt57.false
+    (sym (num_step _ s _ _ c.loop-i-test.true (sym c.wide64-x.ensures.0) (omega (arith, c.if-x-lt48.false)) (omega (arith, c.if-x-gt57.false))
     ∙ num_big _ _ big) ∙ c.loop-i.invariant.3)
 
 pub loop-i-preserved : goal.loop-i-preserved
@@ -43,7 +43,7 @@ loop-i-preserved c = let s = c.args.s.now in (
   search rules,
   search rules,
   search rules,
-  sym (num_step _ s _ _ c.loop-i-test.true (sym c.wide64-x.ensures.0) c.if-x-lt48.false c.if-x-gt57.false)
+  sym (num_step _ s _ _ c.loop-i-test.true (sym c.wide64-x.ensures.0) (omega (arith, c.if-x-lt48.false)) (omega (arith, c.if-x-gt57.false)))
       ∙ c.loop-i.invariant.3,
 )
 
