@@ -3,7 +3,7 @@ ghost use Rattle.std.specs.Prelude.{◌≡◌, ◌≤◌, ◌<◌, length};
 ghost use Rattle.circuit.specs.Sizes.{most_outputs};
 ghost use Rattle.circuit.specs.Lines.{padded};
 ghost use Rattle.builder.specs.Rule.{rows_of};
-ghost use Rattle.builder.specs.Kept.{Capped, base, misses as missesOf, next_gap, next_gaps, Lowering, Poised, Held, Tabled, Next, Stepped, SoFar, Chosen, Grown};
+ghost use Rattle.builder.specs.Kept.{Capped, base, misses as misses_of, next_gap, next_gaps, Lowering, Poised, Held, Tabled, Next, Stepped, SoFar, Chosen, Grown};
 
 use crate::pairs::{Turn, misses, next_gate};
 use circuit::depth::{deeper, greatest_of};
@@ -29,7 +29,7 @@ fn lower(h: &[u32; 2304], gap: u8, t: u32, limit: u8, m: u32, c: u32) -> u8
     requires fact_3 { c ≤ 32768 }
     requires fact_4 { t < 256 }
     requires fact_5 { m < 256 }
-    ensures { result ≡ next_gap (missesOf h.now m c) gap t limit }
+    ensures { result ≡ next_gap (misses_of h.now m c) gap t limit }
 {
     if gap == 0 {
         return 0;
@@ -49,7 +49,7 @@ fn lowered(
     c: u32,
 ) -> [u8; OUTPUTS]
     requires { Lowering gaps.now rows.now limits.now h.now m c }
-    ensures { result ≡ padded most_outputs 0 (next_gaps (missesOf h.now m c) gaps.now rows.now limits.now) }
+    ensures { result ≡ padded most_outputs 0 (next_gaps (misses_of h.now m c) gaps.now rows.now limits.now) }
 {
     let mut next = [0u8; OUTPUTS];
     for i in 0..gaps.len() {

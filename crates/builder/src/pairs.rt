@@ -3,7 +3,7 @@ ghost use Rattle.std.specs.Prelude.{◌≡◌, ℕ, ◌≤◌, ◌<◌, length, 
 ghost use Rattle.circuit.specs.Sizes.{most_outputs};
 ghost use Rattle.distance.specs.Base.{base_of, Shallow, xor};
 ghost use Rattle.builder.specs.Rule.{row, rows_of, squares, best, better, start, first_pair, all_pairs, best_pair};
-ghost use Rattle.builder.specs.Kept.{Capped, misses as missesOf, look_up, goals_after, goals_with, Goals as AreGoals, Weighing, Aimed, Choosing, Chosen};
+ghost use Rattle.builder.specs.Kept.{Capped, misses as misses_of, look_up, goals_after, goals_with, Goals as AreGoals, Weighing, Aimed, Choosing, Chosen};
 
 use circuit::OUTPUTS;
 use circuit::depth::{deeper, greatest_of};
@@ -49,7 +49,7 @@ pub(crate) fn misses(h: &[u32; 2304], place: usize, room: u32, m: u32, c: u32) -
     requires fact_2 { Capped h.now }
     requires fact_3 { c ≤ 32768 }
     requires fact_4 { m < 256 }
-    ensures { result ≡ missesOf h.now m c place room }
+    ensures { result ≡ misses_of h.now m c place room }
 {
     if h[place ^ (m as usize)] + c <= room {
         0
@@ -64,7 +64,7 @@ fn square_sum(places: &[usize], rooms: &[u32], lows: &[u32], h: &[u32; 2304], m:
     requires fact_2 { Capped h.now }
     requires fact_3 { c ≤ 32768 }
     requires fact_4 { m < 256 }
-    ensures { result ≡ squares (goals_after (missesOf h.now m c) places.now rooms.now lows.now) }
+    ensures { result ≡ squares (goals_after (misses_of h.now m c) places.now rooms.now lows.now) }
 {
     let mut sum: u32 = 0;
     for i in 0..places.len() {

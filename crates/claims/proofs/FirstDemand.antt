@@ -36,7 +36,7 @@ use Rattle.distance.specs.declared.Found.{Found}
 use Rattle.distance.specs.declared.FoundNumbers.{FoundNumbers}
 use Rattle.distance.specs.Base.{base_of, Line}
 use Rattle.distance.specs.Distance.{Gap, gates, never, distance, can, gap_from}
-use Rattle.distance.specs.Query.{look_at, answered, answer_of, found as withLines, found_of, found_code, distance_no, distance_code, query_refusal_no, where_sound}
+use Rattle.distance.specs.Query.{look_at, answered, answer_of, found as with_lines, found_of, found_code, distance_no, distance_code, query_refusal_no, where_sound}
 use Rattle.distance.proofs.Refuse.{fit}
 use Rattle.distance.proofs.Theorems as distances
 use Rattle.builder.specs.Call.{built, refusal, build_answer, Builds, BuildsNumbered}
@@ -259,10 +259,10 @@ pub distance-numbers : (n : ℕ) (ms ds : List ℕ) (t D : ℕ) (r : Found) → 
 distance-numbers n ms ds t D r e = subst (λ (a : Found). GivenExactly (distance_no a.answer) (distance_table n ms ds t D)) (sym e) (distance_law n ms ds t D)
 
 -- a refused query answers no lines
-pub distance-refused : (n : ℕ) (ms ds : List ℕ) (t D : ℕ) (r : Found) (w : QueryRefusal) → r ≡ found_of n ms ds t D → r.answer ≡ Unanswered w → r ≡ withLines (Unanswered w) []
+pub distance-refused : (n : ℕ) (ms ds : List ℕ) (t D : ℕ) (r : Found) (w : QueryRefusal) → r ≡ found_of n ms ds t D → r.answer ≡ Unanswered w → r ≡ with_lines (Unanswered w) []
 distance-refused n ms ds t D r w e f =
     let a = sym (ap (λ (x : Found). x.answer) e) ∙ f in
-    e ∙ ap₂ withLines a (distances.query_refused_lines n ms ds t D w ((distances.query_refused n ms ds t D w).0 a))
+    e ∙ ap₂ with_lines a (distances.query_refused_lines n ms ds t D w ((distances.query_refused n ms ds t D w).0 a))
 
 -- the query in numbers: 100 and the refusal's, and what is not refused is below that
 pub distance-numbered : (n : ℕ) (ms ds : List ℕ) (t D : ℕ) (r : FoundNumbers) → r ≡ found_code (found_of n ms ds t D) → GivenExactly (r.code - 100) (distance_table n ms ds t D)

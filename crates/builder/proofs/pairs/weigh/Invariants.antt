@@ -2,13 +2,13 @@ use mathlib.Core.Path.{◌≡◌}
 use Prim.Native.Nat.{◌-◌, ◌≤◌}
 use Rattle.distance.specs.Base.{base_of, xor}
 use Rattle.builder.specs.Rule.{best, start, all_pairs}
-use Rattle.builder.specs.Kept.{misses as missesOf, look_up, goals_with}
+use Rattle.builder.specs.Kept.{misses as misses_of, look_up, goals_with}
 use Rattle.builder.proofs.Goals.{Missed}
 use Rattle.builder.proofs.Passing.{Seen, Along}
 use Rattle.builder.proofs.pairs.weigh.Given as goal
 
 abbrev pub invariant-loop-r : goal.invariant-loop-r
-invariant-loop-r l = (l.j ≡ l.initial.j) × (l.r ≤ l.r-end) × Missed (missesOf l.h l.m l.c) l.places l.rooms l.lows l.r l.sum
+invariant-loop-r l = (l.j ≡ l.initial.j) × (l.r ≤ l.r-end) × Missed (misses_of l.h l.m l.c) l.places l.rooms l.lows l.r l.sum
 
 abbrev pub decreases-loop-r : goal.decreases-loop-r
 decreases-loop-r l = l.r-end - l.r
