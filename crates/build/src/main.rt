@@ -11,7 +11,8 @@ ghost use Rattle.build.specs.Answered.{plan_text, answer_text, Fits};
 
 use builder::Planned;
 use circuit::{Answer, Circuit, Refusal, wide};
-use std::io::{Read, Write};
+use intake::read_full;
+use std::io::Write;
 
 // Longer than any input that is answered otherwise than by its length: 3 bytes and 255 rows.
 const INPUT: usize = 512;
@@ -64,24 +65,6 @@ fn answer(input: &[u8], out: &mut [u8; ROOM]) -> usize
     } else {
         listing::put_refused(out, Refusal::Length)
     }
-}
-
-// Reads until the room is full, the input ends or a read fails: how many bytes stand first in the room.
-fn read_full(input: &mut impl Read, room: &mut [u8]) -> usize
-    ensures { IsPrefixLen result room.new }
-{
-    let mut count = 0;
-    while count < room.len() {
-        let got = match input.read(&mut room[count..]) {
-            Ok(got) => got,
-            Err(_) => 0,
-        };
-        if got == 0 {
-            return count;
-        }
-        count += got;
-    }
-    count
 }
 
 fn main(rt: HostRuntime) {

@@ -18,11 +18,11 @@ use lib.Seq.{take_at, drop_at, take-append_seam}
 use Rattle.circuit.specs.declared.Refusal.TheVariants.{TooShallow, NoRoom}
 use Rattle.circuit.specs.declared.Answer.{Answer}
 use Rattle.circuit.specs.declared.Answer.TheVariants.{Done, Refused}
-use Rattle.circuit.specs.Gate.{bit, row_value_on}
+use Rattle.circuit.specs.Gate.{bit, row_value_on, Kind, kind_of, truth, word_of}
 use Rattle.circuit.specs.Lines.{Listing, gate_at, values, and_depth_step, and_depths, depth_of, and_depth_of, output_on, any_of, lines, listing}
 use Rattle.circuit.specs.Rows.{Row, row, no_row, on_row, masks_of, line_row}
 use Rattle.circuit.specs.Rules.{shaped, listing_answer}
-use Rattle.circuit.proofs.GateLaws.{bit-lt, bit-and, bit_above, differ-sum}
+use Rattle.circuit.proofs.GateLaws.{bit-lt, bit-and, bit_above, differ-sum, bit_word}
 use Rattle.circuit.proofs.LineLaws.{greatest_read}
 use Rattle.circuit.proofs.RowLaws.{matrix_linear, masks_small, values_small, row_known}
 use Rattle.circuit.proofs.RuleLaws.{circuit_fits}
@@ -70,6 +70,23 @@ use Rattle.report.proofs.PassLaws.{Right, FirstWrong, pass_right, right_pass, wr
 use Rattle.claims.proofs.Causes.{Some, Tells, tells_some, passes, silent}
 use Rattle.claims.proofs.Tables.{OutOfRange, BadRow, BrokenRow, LateRow}
 use Rattle.claims.proofs.Following.{range_law, rows_law, row_tells, heavy_tells, deep_tells, late_tells}
+
+-- ---- What a gate gives: the gate table in plain numbers, and that what is worked out on whole words gives it in each bit.
+
+-- what kind k gives where its operands are 0 0, 0 1, 1 0 and 1 1
+abbrev pub truths : ℕ → List ℕ
+truths k = truth (kind_of k) 0 0 ∷ truth (kind_of k) 0 1 ∷ truth (kind_of k) 1 0 ∷ truth (kind_of k) 1 1 ∷ []
+
+-- kinds 0 to 6: XOR and XNOR, AND and NAND, OR and NOR, NOT
+pub gate_table : map truths (0 ∷ 1 ∷ 2 ∷ 3 ∷ 4 ∷ 5 ∷ 6 ∷ [])
+    ≡ (0 ∷ 1 ∷ 1 ∷ 0 ∷ []) ∷ (1 ∷ 0 ∷ 0 ∷ 1 ∷ [])
+    ∷ (0 ∷ 0 ∷ 0 ∷ 1 ∷ []) ∷ (1 ∷ 1 ∷ 1 ∷ 0 ∷ [])
+    ∷ (0 ∷ 1 ∷ 1 ∷ 1 ∷ []) ∷ (1 ∷ 0 ∷ 0 ∷ 0 ∷ [])
+    ∷ (1 ∷ 1 ∷ 0 ∷ 0 ∷ []) ∷ []
+gate_table = refl
+
+pub gate_bits : (k : Kind) (i a b : ℕ) → i < 64 → bit i (word_of k a b) ≡ truth k (bit i a) (bit i b)
+gate_bits = bit_word
 
 -- ---- What a matrix with constants asks of an output: the inputs that the row's mask has are counted, and the constant is added, modulo 2.
 

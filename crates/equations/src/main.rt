@@ -9,7 +9,8 @@ ghost use Rattle.listing.specs.Printed.{new_line, refused_name};
 ghost use Rattle.equations.specs.Answered.{line_of, column_of, found_text, stored_most, line_in, answer_text};
 
 use drawing::{BAD_NAME, BAD_TEXT, Drawn, NO_OUTPUTS};
-use std::io::{Read, Write};
+use intake::read_full;
+use std::io::Write;
 use text::{at_most, put_labelled};
 
 // A file of more bytes than this is unreadable.
@@ -111,24 +112,6 @@ fn answer(file: &[u8], out: &mut [u8; ROOM]) -> usize
     let mut room = [0u8; STORED];
     let drawn = drawing::equations(file, &mut room);
     put_drawn(out, file, drawn, &room)
-}
-
-// Reads until the room is full, the input ends or a read fails: how many bytes stand first in the room.
-fn read_full(input: &mut impl Read, room: &mut [u8]) -> usize
-    ensures { IsPrefixLen result room.new }
-{
-    let mut count = 0;
-    while count < room.len() {
-        let got = match input.read(&mut room[count..]) {
-            Ok(got) => got,
-            Err(_) => 0,
-        };
-        if got == 0 {
-            return count;
-        }
-        count += got;
-    }
-    count
 }
 
 fn main(rt: HostRuntime) {

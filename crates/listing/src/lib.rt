@@ -66,28 +66,13 @@ fn put_formula(room: &mut [u8], at: usize, n: usize, kind: u8, left: usize, righ
     ensures upper_bound { result ≤ at + 14 }
 {
     match kind {
-        0..=1 => {
-            if kind == 0 {
-                put_joined(room, at, n, left, b'^', right)
-            } else {
-                put_turned(room, at, n, left, b'^', right)
-            }
-        }
-        2..=3 => {
-            if kind == 2 {
-                put_joined(room, at, n, left, b'&', right)
-            } else {
-                put_turned(room, at, n, left, b'&', right)
-            }
-        }
-        4..=5 => {
-            if kind == 4 {
-                put_joined(room, at, n, left, b'|', right)
-            } else {
-                put_turned(room, at, n, left, b'|', right)
-            }
-        }
-        _ => put_not(room, at, n, left),
+        0 => put_joined(room, at, n, left, b'^', right), // XOR
+        1 => put_turned(room, at, n, left, b'^', right), // XNOR
+        2 => put_joined(room, at, n, left, b'&', right), // AND
+        3 => put_turned(room, at, n, left, b'&', right), // NAND
+        4 => put_joined(room, at, n, left, b'|', right), // OR
+        5 => put_turned(room, at, n, left, b'|', right), // NOR
+        6..=255 => put_not(room, at, n, left), // NOT
     }
 }
 

@@ -1,0 +1,24 @@
+// What programs read: a stream into a room that is lent.
+#![tactic(auto)]
+
+ghost use Rattle.io.specs.Counts.{IsPrefixLen};
+
+use std::io::Read;
+
+// Reads until the room is full, the input ends or a read fails: how many bytes stand first in the room.
+pub fn read_full(input: &mut impl Read, room: &mut [u8]) -> usize
+    ensures { IsPrefixLen result room.new }
+{
+    let mut count = 0;
+    while count < room.len() {
+        let got = match input.read(&mut room[count..]) {
+            Ok(got) => got,
+            Err(_) => 0,
+        };
+        if got == 0 {
+            return count;
+        }
+        count += got;
+    }
+    count
+}
