@@ -1,4 +1,6 @@
 -- Appending a gate: what is looked at, that a sound state stays sound, which line is reworked, and what the bench holds after it. Assumes nothing.
+use Rattle.std.specs.Prelude.{Ok, Err}
+use Rattle.circuit.specs.Rules.{Answer, done}
 use mathlib.Core.Path.{◌≡◌, refl, ap, ap₂, ◌∙◌, sym, subst}
 use mathlib.Core.Bool.{Bool, true, false, ◌||◌}
 use mathlib.Core.Logic.{⊎_elim}
@@ -11,8 +13,6 @@ use borrow.Author.Tests.{ltb-true, eq-eqb}
 use lib.Dec.{ltb}
 use lib.ListN.{length, get_or, set, take, replicate, length-append, length-replicate, get_or-append}
 use lib.Seq.{get_or_at}
-use Rattle.circuit.specs.declared.Answer.{Answer}
-use Rattle.circuit.specs.declared.Answer.TheVariants.{Done, Refused}
 use Rattle.circuit.specs.declared.Refusal.{Refusal}
 use Rattle.circuit.specs.declared.Refusal.TheVariants.{NothingOpen, Full}
 use Rattle.circuit.specs.Gate.{no_words}
@@ -25,12 +25,11 @@ use Rattle.circuit.proofs.RuleLaws.{GateFits, gate_fits, out_below, out_there, c
 use Rattle.circuit.proofs.Shapes.{Shaped, shape_true, past}
 use Rattle.targets.specs.Target.{is_matrix}
 use Rattle.bench.specs.declared.Bench.{Bench}
-use Rattle.bench.specs.declared.Edit.{Edit}
 use Rattle.bench.specs.declared.Edited.{Edited}
 use Rattle.bench.specs.State.{State, Sound, Present, nothing, present}
 use Rattle.bench.specs.Held.{empty_bench, full_bench, bench_of, Stands, holding}
-use Rattle.bench.specs.Parts.{entries, examined_as, regated, HeldBut, Reexamined, standing, append_look, Reworked}
-use Rattle.bench.specs.Calls.{append_answer, appended, after_append, append_edit, readers_of, no_rework, AppendPromise}
+use Rattle.bench.specs.Parts.{open_on, entries, examined_as, regated, HeldBut, Reexamined, append_look, GateSet}
+use Rattle.bench.specs.Calls.{Edit, append_answer, appended, after_append, append_edit, readers_of, no_rework, AppendPromise}
 use Rattle.bench.proofs.Standing.{full_examined, full_standing}
 use Rattle.bench.proofs.Stood.{standing-shaped}
 use Rattle.bench.proofs.Examining.{entries_next, inputs-length}
@@ -44,20 +43,20 @@ pub record LookFits (only : Bool) (n m g kind a b : ℕ) : Type 0 where
   pub room : g < most_gates
   pub gate : GateFits only (n + g) (gate kind a b)
 
-pub look_fits : (opened only : Bool) (n m g kind a b : ℕ) (r : Answer) → r ≡ append_look opened only n m g kind a b → r ≡ Done → LookFits only n m g kind a b
+pub look_fits : (z : Bench) (kind a b : ℕ) (r : Answer) → r ≡ append_look z kind a b → r ≡ done → LookFits z.is_matrix z.n z.m z.g kind a b
 unfolding append_look
-look_fits opened only n m g kind a b r e h =
-    let p = past (standing opened n m g) NothingOpen (sym e ∙ h) in
-    let q = past (ltb g most_gates) Full p.1 in
-    record { shape = standing-shaped opened n m g p.0; room = ltb-true g most_gates q.0; gate = gate_fits only (n + g) (gate kind a b) q.1 }
+look_fits z kind a b r e h =
+    let p = past (open_on z) NothingOpen (sym e ∙ h) in
+    let q = past (ltb z.g most_gates) Full p.1 in
+    record { shape = standing-shaped z.is_open z.n z.m z.g p.0; room = ltb-true z.g most_gates q.0; gate = gate_fits z.is_matrix (z.n + z.g) (gate kind a b) q.1 }
 
 -- on a right bench it is what appending answers
 look_is : (z : Bench) (p : Present) → Stands z p → (kind a b : ℕ)
-    → append_look z.is_open z.is_matrix z.n z.m z.g kind a b ≡ append_answer p kind a b
+    → append_look z kind a b ≡ append_answer p kind a b
 unfolding append_look append_answer empty_bench full_bench
-look_is z nothing st kind a b = ap (λ (z : Bench). append_look z.is_open z.is_matrix z.n z.m z.g kind a b) st.is
+look_is z nothing st kind a b = ap (λ (z : Bench). append_look z kind a b) st.is
 look_is z (present s) st kind a b =
-    ap (λ (z : Bench). append_look z.is_open z.is_matrix z.n z.m z.g kind a b) st.is
+    ap (λ (z : Bench). append_look z kind a b) st.is
     ∙ ap (λ (t : Bool). unless t NothingOpen (append_answer (present s) kind a b)) (full_standing s st.sound)
 
 -- ---- the state after it
@@ -65,9 +64,9 @@ look_is z (present s) st kind a b =
 -- what an acceptance shows
 pub record AppendFits (s : State) (kind a b : ℕ) : Type 0 where
   pub room : length s.circuit.gates < most_gates
-  pub gate : gate_answer (is_matrix s.target) (s.circuit.inputs + length s.circuit.gates) (gate kind a b) ≡ Done
+  pub gate : gate_answer (is_matrix s.target) (s.circuit.inputs + length s.circuit.gates) (gate kind a b) ≡ done
 
-pub append_fits : (s : State) (kind a b : ℕ) → append_answer (present s) kind a b ≡ Done → AppendFits s kind a b
+pub append_fits : (s : State) (kind a b : ℕ) → append_answer (present s) kind a b ≡ done → AppendFits s kind a b
 unfolding append_answer
 append_fits s kind a b h =
     let g = length s.circuit.gates in
@@ -88,8 +87,8 @@ module _ (c : Listing) (q : Gate) where
   last_gate = get_or_at c.gates q [] no_gate (length c.gates) refl
 
   -- a circuit with room and a gate that fits on the next line is accepted with it
-  pub appended_accepted : (only : Bool) → listing_answer only c ≡ Done → length c.gates < most_gates
-      → gate_answer only (c.inputs + length c.gates) q ≡ Done → listing_answer only (with_more c q) ≡ Done
+  pub appended_accepted : (only : Bool) → listing_answer only c ≡ done → length c.gates < most_gates
+      → gate_answer only (c.inputs + length c.gates) q ≡ done → listing_answer only (with_more c q) ≡ done
   appended_accepted only ok h a =
       let f = circuit_fits only c ok in
       let g = length c.gates in
@@ -101,7 +100,7 @@ module _ (c : Listing) (q : Gate) where
         shaped-true = shape_true _ _ _ s;
         gates = λ j l.
             ⊎_elim
-            (λ e. subst (λ (i : ℕ). gate_answer only (c.inputs + i) (gate_at (with_more c q) i) ≡ Done) (sym e)
+            (λ e. subst (λ (i : ℕ). gate_answer only (c.inputs + i) (gate_at (with_more c q) i) ≡ done) (sym e)
             (ap (gate_answer only (c.inputs + g)) last_gate ∙ a))
             (λ e. ap (gate_answer only (c.inputs + j)) (others_same j e) ∙ f.gates j e)
             (eq-or-lt_of_le {n = j} {m = g} (omega (arith, one_more)));
@@ -119,7 +118,7 @@ module _ (c : Listing) (q : Gate) where
       (ap (λ (t : Bool). t || any_of (map (λ (i : ℕ). get_or (lines (reach_step g) false (replicate c.inputs false) gates g) i false) (reads (gates g)))) (eq-eqb g g refl))
 
 -- an accepted gate keeps every rule
-pub sound_appended : (s : State) (kind a b : ℕ) → Sound s → append_answer (present s) kind a b ≡ Done → Sound (appended s kind a b)
+pub sound_appended : (s : State) (kind a b : ℕ) → Sound s → append_answer (present s) kind a b ≡ done → Sound (appended s kind a b)
 sound_appended s kind a b ok h =
     let f = append_fits s kind a b h in
     record {
@@ -174,7 +173,7 @@ module _ (s : State) (kind a b : ℕ) (room : length s.circuit.gates < most_gate
       }
 
 -- an accepted append, on a bench that stands for p
-done_append : (z : Bench) (p : Present) → Stands z p → (kind a b : ℕ) → append_answer p kind a b ≡ Done
+done_append : (z : Bench) (p : Present) → Stands z p → (kind a b : ℕ) → append_answer p kind a b ≡ done
     → (r : Bench) (x : Edit) → Reexamined (regated z z.g kind a b) z.g r x → (x ≡ append_edit p kind a b) × (r ≡ bench_of (after_append p kind a b))
 unfolding append_answer full_bench
 done_append z nothing st kind a b h r x e = let y : ◌≡◌ {A = ℕ} 0 1 = cc in absurd (omega arith)
@@ -192,8 +191,8 @@ done_append z (present s) st kind a b h r x e =
     )
 
 -- a refused one leaves what was present, and reworks nothing
-refused-append : (p : Present) (kind a b : ℕ) (w : Refusal) → append_answer p kind a b ≡ Refused w
-    → (no_rework (Refused w) ≡ append_edit p kind a b) × (bench_of p ≡ bench_of (after_append p kind a b))
+refused-append : (p : Present) (kind a b : ℕ) (w : Refusal) → append_answer p kind a b ≡ Err w
+    → (no_rework (Err w) ≡ append_edit p kind a b) × (bench_of p ≡ bench_of (after_append p kind a b))
 unfolding append_answer
 refused-append nothing kind a b w e = (ap no_rework (sym e), refl)
 refused-append (present s) kind a b w e =
@@ -201,12 +200,12 @@ refused-append (present s) kind a b w e =
 
 -- so what is given, by what was looked at, is what appending promises
 pub append_given : (z : Bench) (kind a b kind' a' b' : ℕ) (look : Answer) (r : Edited)
-    → look ≡ append_look z.is_open z.is_matrix z.n z.m z.g kind a b → kind' ≡ kind % 256 → a' ≡ a % held16 → b' ≡ b % held16
-    → Reworked look z z.g kind' a' b' r → AppendPromise z kind a b r.edit r.bench
-append_given z kind a b kind' a' b' (Refused w) r is ek ea eb h p st =
+    → look ≡ append_look z kind a b → kind' ≡ kind % 256 → a' ≡ a % held16 → b' ≡ b % held16
+    → GateSet look z z.g kind' a' b' r → AppendPromise z kind a b r.edit r.bench
+append_given z kind a b kind' a' b' (Err w) r is ek ea eb h p st =
     let e = refused-append p kind a b w (sym (look_is z p st kind a b) ∙ sym is) in
     (ap (λ (x : Edited). x.edit) h ∙ e.0, ap (λ (x : Edited). x.bench) h ∙ st.is ∙ e.1)
-append_given z kind a b kind' a' b' Done r is ek ea eb h p st =
-    let o = look_fits _ _ _ _ _ kind a b Done is refl in
+append_given z kind a b kind' a' b' (Ok _) r is ek ea eb h p st =
+    let o = look_fits _ kind a b done is refl in
     done_append z p st kind a b (sym (look_is z p st kind a b) ∙ sym is) r.bench r.edit
     (subst (λ (y : Bench). Reexamined y z.g r.bench r.edit) (low_gate z z.g _ kind a b kind' a' b' _ o.gate (omega (arith, o.shape, o.room)) ek ea eb) h)

@@ -1,4 +1,6 @@
 -- What pointing an output and setting the limits leave, from what was looked at first. Assumes nothing.
+use Rattle.std.specs.Prelude.{Ok, Err}
+use Rattle.circuit.specs.Rules.{Answer, done}
 use mathlib.Core.Path.{◌≡◌, refl, ap, ◌∙◌, sym}
 use mathlib.Core.Bool.{Bool, true, false}
 use mathlib.Core.List.{List}
@@ -7,8 +9,6 @@ use native.Mathlib.Omega.{arith}
 use lib.Dec.{ltb}
 use lib.ListN.{length, set, length-set}
 use borrow.Author.Tests.{ltb-true}
-use Rattle.circuit.specs.declared.Answer.{Answer}
-use Rattle.circuit.specs.declared.Answer.TheVariants.{Done, Refused}
 use Rattle.circuit.specs.declared.Refusal.{Refusal}
 use Rattle.circuit.specs.declared.Refusal.TheVariants.{NotThere, NothingOpen}
 use Rattle.circuit.specs.Rules.{unless, out_answer}
@@ -19,38 +19,36 @@ use Rattle.circuit.proofs.Padding.{padded-set}
 use Rattle.circuit.proofs.RuleLaws.{out_below}
 use Rattle.targets.specs.Wanted.{wanted_of}
 use Rattle.bench.specs.declared.Bench.{Bench}
-use Rattle.bench.specs.declared.Edit.{Edit}
-use Rattle.bench.specs.declared.Edited.{Edited}
 use Rattle.bench.specs.State.{State, Sound, SoundPresent, Present, nothing, present, Limits}
 use Rattle.bench.specs.Held.{empty_bench, full_bench, bench_of, Stands, recircuited, limited, circuit_of, retargeted}
-use Rattle.bench.specs.Calls.{after, no_rework, output_edit_answer, output_edited, after_output, after_limits, OutputPromise, LimitsPromise}
-use Rattle.bench.specs.Parts.{standing, output_look, unreworked}
+use Rattle.bench.specs.Calls.{Edit, after, no_lines, no_rework, output_edit_answer, output_edited, after_output, after_limits, OutputPromise, LimitsPromise}
+use Rattle.bench.specs.Parts.{open_on, output_look}
 use Rattle.bench.proofs.Standing.{full_standing}
-use Rattle.bench.proofs.Stood.{open_on, standing-shaped, when-open, when_shut}
+use Rattle.bench.proofs.Stood.{standing-shaped, when-open, when_shut}
 
 -- ---- any edit that reworks no line, given by its answer, by what is present after it, and by what the code looks at
-module _ (answer : Present → Answer) (next : Present → Present) (look : Bench → Answer) (shut : answer nothing ≡ Refused NothingOpen)
+module _ (answer : Present → Answer) (next : Present → Present) (look : Bench → Answer) (shut : answer nothing ≡ Err NothingOpen)
     (looked : (b : Bench) (p : Present) → Stands b p → look b ≡ answer p)
-    (kept : (p : Present) (w : Refusal) → answer p ≡ Refused w → next p ≡ p) where
+    (kept : (p : Present) (w : Refusal) → answer p ≡ Err w → next p ≡ p) where
   abbrev pub Promise : Bench → Edit → Bench → Type 0
   Promise b edit after = (p : Present) → Stands b p → (edit ≡ no_rework (answer p)) × (after ≡ bench_of (next p))
 
   -- a refused edit leaves the bench
-  pub edit_refused : (b : Bench) (w : Refusal) (r : Edited) → look b ≡ Refused w → r ≡ unreworked b (Refused w) → Promise b r.edit r.bench
-  edit_refused b w r h e p k =
-      let a : answer p ≡ Refused w = sym (looked b p k) ∙ h in
-      (ap (λ (z : Edited). z.edit) e ∙ ap no_rework (sym a), ap (λ (z : Edited). z.bench) e ∙ k.is ∙ ap bench_of (sym (kept p w a)))
+  pub edit_refused : (b : Bench) (w : Refusal) → look b ≡ Err w → Promise b (Err w) b
+  edit_refused b w h p k =
+      let a : answer p ≡ Err w = sym (looked b p k) ∙ h in
+      (ap no_rework (sym a), k.is ∙ ap bench_of (sym (kept p w a)))
 
   -- an accepted one makes of the bench what f makes
-  pub edit_done : (f : Bench → Bench) → ((s : State) → Sound s → answer (present s) ≡ Done → f (full_bench s) ≡ bench_of (next (present s)))
-      → (b : Bench) (r : Edited) → look b ≡ Done → r ≡ unreworked (f b) Done → Promise b r.edit r.bench
-  edit_done f made b r h e p k =
-      (ap (λ (z : Edited). z.edit) e ∙ ap no_rework (sym (a p k)), ap (λ (z : Edited). z.bench) e ∙ ap f k.is ∙ moved p k.sound (a p k)) where
-        a : (p : Present) → Stands b p → answer p ≡ Done
+  pub edit_done : (f : Bench → Bench) → ((s : State) → Sound s → answer (present s) ≡ done → f (full_bench s) ≡ bench_of (next (present s)))
+      → (b z : Bench) → look b ≡ done → z ≡ f b → Promise b (Ok no_lines) z
+  edit_done f made b z h e p k =
+      (ap no_rework (sym (a p k)), e ∙ ap f k.is ∙ moved p k.sound (a p k)) where
+        a : (p : Present) → Stands b p → answer p ≡ done
         a p k = sym (looked b p k) ∙ h
 
-        moved : (p : Present) → SoundPresent p → answer p ≡ Done → f (bench_of p) ≡ bench_of (next p)
-        moved nothing ok d = let z : Refused NothingOpen ≡ Done = sym shut ∙ d in let y : ◌≡◌ {A = ℕ} 0 1 = cc in absurd (omega arith)
+        moved : (p : Present) → SoundPresent p → answer p ≡ done → f (bench_of p) ≡ bench_of (next p)
+        moved nothing ok d = let z : Err NothingOpen ≡ done = sym shut ∙ d in let y : ◌≡◌ {A = ℕ} 0 1 = cc in absurd (omega arith)
         moved (present s) ok d = made s ok d
 
 -- ---- pointing an output
@@ -65,16 +63,16 @@ pub record OutputFits (n m g j line : ℕ) : Type 0 where
   pub there : j < m
   pub below : line < n + g
 
-pub output_fits : (opened : Bool) (n m g j line : ℕ) → output_look opened n m g j line ≡ Done → OutputFits n m g j line
+pub output_fits : (b : Bench) (j line : ℕ) → output_look b j line ≡ done → OutputFits b.n b.m b.g j line
 unfolding output_look
-output_fits opened n m g j line h =
-    let p = past (standing opened n m g) NothingOpen h in
-    let q = past (ltb j m) NotThere p.1 in
-    record { shape = standing-shaped opened n m g p.0; there = ltb-true j m q.0; below = out_below (n + g) line q.1 }
+output_fits b j line h =
+    let p = past (open_on b) NothingOpen h in
+    let q = past (ltb j b.m) NotThere p.1 in
+    record { shape = standing-shaped b.is_open b.n b.m b.g p.0; there = ltb-true j b.m q.0; below = out_below (b.n + b.g) line q.1 }
 
 module _ (j line : ℕ) where
   abbrev output_look_on : Bench → Answer
-  output_look_on b = output_look b.is_open b.n b.m b.g j line
+  output_look_on b = output_look b j line
 
   -- looking at the bench gives the call's answer
   output-look : (b : Bench) (p : Present) → Stands b p → output_look_on b ≡ output_edit_answer p j line
@@ -98,25 +96,25 @@ module _ (j line : ℕ) where
       (full_bench s).target (wanted_of s.target (l i))
 
   -- a refused edit leaves what is present
-  pub output_kept : (p : Present) (w : Refusal) → output_edit_answer p j line ≡ Refused w → after_output p j line ≡ p
+  pub output_kept : (p : Present) (w : Refusal) → output_edit_answer p j line ≡ Err w → after_output p j line ≡ p
   output_kept nothing w e = refl
   output_kept (present s) w e = ap (λ (x : Answer). after x (output_edited s j line) (present s)) e
 
   -- what an accepted edit shows of a state
-  pub output_there : (s : State) → output_edit_answer (present s) j line ≡ Done
-      → (j < length s.circuit.outs) × (out_answer (s.circuit.inputs + length s.circuit.gates) line ≡ Done)
+  pub output_there : (s : State) → output_edit_answer (present s) j line ≡ done
+      → (j < length s.circuit.outs) × (out_answer (s.circuit.inputs + length s.circuit.gates) line ≡ done)
   unfolding output_edit_answer
   output_there s e = let p = past (ltb j (length s.circuit.outs)) NotThere e in (ltb-true _ _ p.0, p.1)
 
-  shut : output_edit_answer nothing j line ≡ Refused NothingOpen
+  shut : output_edit_answer nothing j line ≡ Err NothingOpen
   unfolding output_edit_answer
   shut = refl
 
-  pub output_refused : (b : Bench) (w : Refusal) (r : Edited) → output_look_on b ≡ Refused w → r ≡ unreworked b (Refused w) → OutputPromise b j line r.edit r.bench
+  pub output_refused : (b : Bench) (w : Refusal) → output_look_on b ≡ Err w → OutputPromise b j line (Err w) b
   output_refused = edit_refused (λ p. output_edit_answer p j line) (λ p. after_output p j line) output_look_on shut output-look output_kept
 
-  pub output_done : (b : Bench) (r : Edited) → output_look_on b ≡ Done → r ≡ unreworked (pointing b (set b.outputs j line)) Done
-      → OutputPromise b j line r.edit r.bench
+  pub output_done : (b z : Bench) → output_look_on b ≡ done → z ≡ pointing b (set b.outputs j line)
+      → OutputPromise b j line (Ok no_lines) z
   output_done =
       edit_done (λ p. output_edit_answer p j line) (λ p. after_output p j line) output_look_on shut output-look output_kept
       (λ b. pointing b (set b.outputs j line))
@@ -124,15 +122,13 @@ module _ (j line : ℕ) where
 
 -- ---- setting the limits
 
-module _ (b : Bench) (l : Limits) (r : Edited) where
+module _ (b : Bench) (l : Limits) where
   full_limited : (s : State) → limited (full_bench s) l ≡ bench_of (after_limits (present s) l)
   unfolding full_bench
   full_limited s = refl
 
-  pub limits_open : open_on b ≡ true → r ≡ unreworked (limited b l) Done → LimitsPromise b l r.edit r.bench
-  limits_open t e =
-      when-open _ b t
-      (λ s ok is. (ap (λ (z : Edited). z.edit) e, ap (λ (z : Edited). z.bench) e ∙ ap (λ (x : Bench). limited x l) is ∙ full_limited s))
+  pub limits_open : (next : Bench) → open_on b ≡ true → next ≡ limited b l → LimitsPromise b l (Ok no_lines) next
+  limits_open next t e = when-open _ b t (λ s ok is. (refl, e ∙ ap (λ (x : Bench). limited x l) is ∙ full_limited s))
 
-  pub limits_shut : open_on b ≡ false → r ≡ unreworked b (Refused NothingOpen) → LimitsPromise b l r.edit r.bench
-  limits_shut t e = when_shut _ b t (λ is. (ap (λ (z : Edited). z.edit) e, ap (λ (z : Edited). z.bench) e ∙ is))
+  pub limits_shut : open_on b ≡ false → LimitsPromise b l (Err NothingOpen) b
+  limits_shut t = when_shut _ b t (λ is. (refl, is))

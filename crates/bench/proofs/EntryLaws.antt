@@ -1,4 +1,6 @@
 -- What changing an entry of the target leaves, from what was looked at first. Assumes nothing.
+use Rattle.std.specs.Prelude.{Ok, Err}
+use Rattle.circuit.specs.Rules.{Answer, done}
 use mathlib.Core.Path.{◌≡◌, refl, ap, ap₂, ◌∙◌, sym}
 use mathlib.Core.Bool.{Bool, true, false, cond, ◌&&◌, true≢false}
 use mathlib.Core.List.{List, map}
@@ -9,8 +11,6 @@ use lib.Dec.{leb, ltb, eqb}
 use lib.ListN.{length, set, length-set, length-map, length-append}
 use lib.Pow.{pow_mono}
 use borrow.Author.Tests.{leb-true, ltb-true, eqb-true, eq-eqb}
-use Rattle.circuit.specs.declared.Answer.{Answer}
-use Rattle.circuit.specs.declared.Answer.TheVariants.{Done, Refused}
 use Rattle.circuit.specs.declared.Refusal.{Refusal}
 use Rattle.circuit.specs.declared.Refusal.TheVariants.{Target as BadTarget, NotThere, NothingOpen}
 use Rattle.circuit.specs.Lines.{Listing, padded}
@@ -26,11 +26,10 @@ use Rattle.targets.proofs.Bytes.{set-row}
 use Rattle.targets.proofs.Fitting.{all_set}
 use Rattle.targets.proofs.Wanting.{wanted_padded}
 use Rattle.bench.specs.declared.Bench.{Bench}
-use Rattle.bench.specs.declared.Edited.{Edited}
 use Rattle.bench.specs.State.{State, with_target, Sound, Present, nothing, present}
 use Rattle.bench.specs.Held.{empty_bench, full_bench, bench_of, Stands, bench_with, retargeted, circuit_of}
-use Rattle.bench.specs.Calls.{after, entry_answer, entry_edit_answer, with_entry, entry_edited, after_entry, EntryPromise}
-use Rattle.bench.specs.Parts.{standing, entry_look, entered, unreworked}
+use Rattle.bench.specs.Calls.{after, no_lines, entry_answer, entry_edit_answer, with_entry, entry_edited, after_entry, EntryPromise}
+use Rattle.bench.specs.Parts.{open_on, entry_look, entered}
 use Rattle.bench.proofs.Standing.{full_standing}
 use Rattle.bench.proofs.Stood.{standing-shaped}
 use Rattle.bench.proofs.EditLaws.{edit_refused, edit_done}
@@ -61,16 +60,16 @@ pub record EntryThere (only : Bool) (m i : ℕ) : Type 0 where
   pub there : i < most_values
   pub row : only ≡ true → i < m
 
-pub entry_there : (opened only : Bool) (n m g i value constant : ℕ) → entry_look opened only n m g i value constant ≡ Done → EntryThere only m i
+pub entry_there : (b : Bench) (i value constant : ℕ) → entry_look b i value constant ≡ done → EntryThere b.is_matrix b.m i
 unfolding entry_look
-entry_there opened only n m g i value constant h =
-    let p = past (standing opened n m g) NothingOpen h in
-    let q = past (ltb i (cond only m (2 ^ n))) NotThere p.1 in
-    let ok = standing-shaped opened n m g p.0 in
-    by only ok (ltb-true i (cond only m (2 ^ n)) q.0) where
-      by : (t : Bool) → Shaped n m g → i < cond t m (2 ^ n) → EntryThere t m i
+entry_there b i value constant h =
+    let p = past (open_on b) NothingOpen h in
+    let q = past (ltb i (cond b.is_matrix b.m (2 ^ b.n))) NotThere p.1 in
+    let ok = standing-shaped b.is_open b.n b.m b.g p.0 in
+    by b.is_matrix ok (ltb-true i (cond b.is_matrix b.m (2 ^ b.n)) q.0) where
+      by : (t : Bool) → Shaped b.n b.m b.g → i < cond t b.m (2 ^ b.n) → EntryThere t b.m i
       by true ok l = record { few = ok.m_most; there = omega (arith, ok); row = λ e. l }
-      by false ok l = record { few = ok.m_most; there = below_byte n i ok.n_most l; row = λ e. absurd (true≢false (sym e)) }
+      by false ok l = record { few = ok.m_most; there = below_byte b.n i ok.n_most l; row = λ e. absurd (true≢false (sym e)) }
 
 -- ---- what an accepted entry shows of a state
 
@@ -83,7 +82,7 @@ pub record EntryRight (n m i value constant : ℕ) (t : Target) : Type 0 where
 
 module _ (i value constant : ℕ) where
   entry_right : (c : Listing) (t : Target) → c.inputs ≤ most_inputs → length c.outs ≤ most_outputs → target_fits c.inputs (length c.outs) t ≡ true
-      → entry_answer c t i value constant ≡ Done → EntryRight c.inputs (length c.outs) i value constant t
+      → entry_answer c t i value constant ≡ done → EntryRight c.inputs (length c.outs) i value constant t
   unfolding target_fits row_is_sound entry_fits entered
   entry_right c (matrix rows) n8 m32 f a =
       let n = c.inputs in
@@ -127,7 +126,7 @@ module _ (i value constant : ℕ) where
         fits = λ j. u.0 j && (many j && each j);
       }
 
-  pub entry_accepted : (s : State) → Sound s → entry_edit_answer (present s) i value constant ≡ Done
+  pub entry_accepted : (s : State) → Sound s → entry_edit_answer (present s) i value constant ≡ done
       → EntryRight s.circuit.inputs (length s.circuit.outs) i value constant s.target
   unfolding entry_edit_answer
   entry_accepted s ok a =
@@ -137,7 +136,7 @@ module _ (i value constant : ℕ) where
   -- ---- the call
 
   abbrev pub entry_look_on : Bench → Answer
-  entry_look_on b = entry_look b.is_open b.is_matrix b.n b.m b.g i value constant
+  entry_look_on b = entry_look b i value constant
 
   entry-look : (b : Bench) (p : Present) → Stands b p → entry_look_on b ≡ entry_edit_answer p i value constant
   unfolding entry_look entry_edit_answer empty_bench full_bench
@@ -148,18 +147,18 @@ module _ (i value constant : ℕ) where
         look : Target → Answer
         look t =
             unless (ltb i (cond (is_matrix t) (length s.circuit.outs) (2 ^ s.circuit.inputs))) NotThere
-            (unless (value_fits (is_matrix t) s.circuit.inputs (length s.circuit.outs) value constant) BadTarget Done)
+            (unless (value_fits (is_matrix t) s.circuit.inputs (length s.circuit.outs) value constant) BadTarget done)
 
         same : (t : Target) → look t ≡ entry_answer s.circuit t i value constant
         same (matrix rows) = refl
         same (table entries) = refl
 
   -- a refused edit leaves what is present
-  pub entry_kept : (p : Present) (w : Refusal) → entry_edit_answer p i value constant ≡ Refused w → after_entry p i value constant ≡ p
+  pub entry_kept : (p : Present) (w : Refusal) → entry_edit_answer p i value constant ≡ Err w → after_entry p i value constant ≡ p
   entry_kept nothing w e = refl
   entry_kept (present s) w e = ap (λ (x : Answer). after x (entry_edited s i value constant) (present s)) e
 
-  shut : entry_edit_answer nothing i value constant ≡ Refused NothingOpen
+  shut : entry_edit_answer nothing i value constant ≡ Err NothingOpen
   unfolding entry_edit_answer
   shut = refl
 
@@ -181,10 +180,10 @@ module _ (i value constant : ℕ) where
       (ap₂ (entered (is_matrix t) m (padded most_values 0 (target_bytes t)) i) (mod-eq_of_lt r.small) (mod-eq_of_lt r.bit) ∙ r.bytes)
       r.fits (circuit_fits (is_matrix t) s.circuit ok.circuit).shape.m_most
 
-  pub entry_refused : (b : Bench) (w : Refusal) (r : Edited) → entry_look_on b ≡ Refused w → r ≡ unreworked b (Refused w) → EntryPromise b i value constant r.edit r.bench
+  pub entry_refused : (b : Bench) (w : Refusal) → entry_look_on b ≡ Err w → EntryPromise b i value constant (Err w) b
   entry_refused = edit_refused (λ p. entry_edit_answer p i value constant) (λ p. after_entry p i value constant) entry_look_on shut entry-look entry_kept
 
-  pub entry_done : (b : Bench) (r : Edited) → entry_look_on b ≡ Done → r ≡ unreworked (entered_on b) Done → EntryPromise b i value constant r.edit r.bench
+  pub entry_done : (b z : Bench) → entry_look_on b ≡ done → z ≡ entered_on b → EntryPromise b i value constant (Ok no_lines) z
   entry_done =
       edit_done (λ p. entry_edit_answer p i value constant) (λ p. after_entry p i value constant) entry_look_on shut entry-look entry_kept entered_on
       (λ s ok d. entry_entered s ok (entry_accepted s ok d) ∙ ap (λ (x : Answer). bench_of (after x (entry_edited s i value constant) (present s))) (sym d))

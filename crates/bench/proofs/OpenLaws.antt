@@ -1,37 +1,35 @@
 -- What opening leaves: the bench with a circuit and its target placed on it is the one that stands for them. Assumes nothing.
+use Rattle.std.specs.Prelude.{Ok, Err}
+use Rattle.circuit.specs.Rules.{Answer, done}
 use mathlib.Core.Path.{◌≡◌, refl, ap, ◌∙◌, sym, subst}
-use mathlib.Core.Bool.{Bool, true}
+use mathlib.Core.Bool.{Bool, true, false}
 use mathlib.Core.List.{List}
 use Prim.Native.Nat.{ℕ, ◌≤◌}
 use native.Mathlib.Omega.{arith}
 use lib.ListN.{length}
 use Rattle.circuit.specs.declared.Words.{Words}
 use Rattle.circuit.specs.declared.Circuit.{Circuit}
-use Rattle.circuit.specs.declared.Answer.{Answer}
-use Rattle.circuit.specs.declared.Answer.TheVariants.{Done, Refused}
 use Rattle.circuit.specs.declared.Refusal.{Refusal}
 use Rattle.circuit.specs.declared.Refusal.TheVariants.{Target as BadTarget}
 use Rattle.circuit.specs.Lines.{Listing, padded}
 use Rattle.circuit.specs.Structs.{held}
 use Rattle.circuit.specs.Rules.{unless, and_then}
 use Rattle.circuit.specs.Sizes.{most_values}
-use Rattle.circuit.proofs.Shapes.{Shaped}
+use Rattle.circuit.proofs.Shapes.{Shaped, past, then_done}
 use Rattle.circuit.proofs.RuleLaws.{circuit_fits, CircuitFits}
-use Rattle.stored.specs.declared.Reading.{Reading}
 use Rattle.stored.specs.Stored.{listing_in}
 use Rattle.stored.specs.Reading.{reading_answer, reading_of}
 use Rattle.stored.proofs.Round.{listing_accepted}
-use Rattle.stored.proofs.Restoring.{read_answer, read_circuit}
-use Rattle.targets.specs.Target.{is_matrix, target_bytes, target_fits, Brought, brought, target_in, brought_fits}
+use Rattle.stored.proofs.Restoring.{done_is, refused_is, read_done, read_refused}
+use Rattle.targets.specs.Target.{is_matrix, target_bytes, target_fits, Brought, target_in, brought_fits}
 use Rattle.targets.specs.Wanted.{wanted_in}
 use Rattle.targets.proofs.Bytes.{kind_by, brings, target_short}
 use Rattle.targets.proofs.Wanting.{wanted_padded}
 use Rattle.bench.specs.declared.Bench.{Bench}
-use Rattle.bench.specs.declared.Opened.{Opened}
 use Rattle.bench.specs.State.{Limits, State, Present}
 use Rattle.bench.specs.Held.{full_bench, bench_of, Stands, unexamined}
 use Rattle.bench.specs.Calls.{after, open_answer, open_state, after_open, bench_after_open, OpenPromise}
-use Rattle.bench.specs.Parts.{examined_as, examined, placed_of}
+use Rattle.bench.specs.Parts.{examined_as, examined, placed_of, accepted_of}
 use Rattle.bench.proofs.Standing.{examined_full}
 
 -- ---- the bench with a circuit, a target and limits
@@ -52,72 +50,83 @@ module _ (s : State) (f : CircuitFits (is_matrix s.target) s.circuit) (fits : ta
       (λ i. examined (unexamined true (held s.circuit) (is_matrix t) (padded most_values 0 (target_bytes t)) (wanted_padded s.circuit.inputs (length s.circuit.outs) t fits f.shape.m_most i) s.limits))
       ∙ examined_full s f
 
--- ---- what the reader's result shows
+-- ---- what is read and looked at first
 
-module _ (only : Bool) (s : List ℕ) (r : Reading) (is : r ≡ reading_of only s) where
-  pub read_shaped : r.answer ≡ Done → Shaped r.circuit.n r.circuit.m r.circuit.g
-  read_shaped h =
-      let f = circuit_fits only (listing_in s) (listing_accepted only s (sym (read_answer only s r is) ∙ h)) in
-      subst (λ (c : Circuit). Shaped c.n c.m c.g) (sym (read_circuit only s r is h)) f.shape
+module _ (bytes : List ℕ) (t : Brought) where
+  abbrev pub found : Listing
+  found = listing_in bytes
+
+  -- the circuit that is brought keeps every rule, and the target too
+  pub open_shows : open_answer bytes t ≡ done → (reading_answer t.of_matrix bytes ≡ done) × (brought_fits found.inputs (length found.outs) t ≡ true)
+  unfolding open_answer
+  open_shows h =
+      let fits = brought_fits found.inputs (length found.outs) t in
+      let p = then_done (reading_answer t.of_matrix bytes) (unless fits BadTarget done) h in
+      (p.0, (past fits BadTarget p.1).0)
+
+  -- the reader refuses
+  pub accepted_unread : (w : Refusal) → Err w ≡ reading_of t.of_matrix bytes → Err w ≡ accepted_of bytes t
+  unfolding accepted_of open_answer
+  accepted_unread w h =
+      sym (λ i. and_then (and_then (read_refused t.of_matrix bytes w h i) (unless (brought_fits found.inputs (length found.outs) t) BadTarget done)) (Ok (held found)))
+
+  -- the reader accepts, and then the target is looked at
+  pub accepted_read : (c : Circuit) → Ok c ≡ reading_of t.of_matrix bytes → (b : Bool) → brought_fits c.n c.m t ≡ b → unless b BadTarget (Ok c) ≡ accepted_of bytes t
+  unfolding accepted_of open_answer
+  accepted_read c h b f =
+      let r = read_done t.of_matrix bytes c h in
+      let g = ap (λ (z : Circuit). brought_fits z.n z.m t) (sym r.1) ∙ f in
+      ap (λ (z : Circuit). unless b BadTarget (Ok z)) r.1 ∙ by b ∙ sym (λ i. and_then (and_then (r.0 i) (unless (g i) BadTarget done)) (Ok (held found))) where
+        by : (b : Bool) → unless b BadTarget (Ok (held found)) ≡ and_then (unless b BadTarget done) (Ok (held found))
+        by true = refl
+        by false = refl
+
+  -- so an open is answered by what was accepted
+  pub accepted_no : (w : Refusal) → Err w ≡ accepted_of bytes t → open_answer bytes t ≡ Err w
+  unfolding accepted_of
+  accepted_no w h = refused_is (open_answer bytes t) (held found) h
+
+  pub accepted_yes : (c : Circuit) → Ok c ≡ accepted_of bytes t → (open_answer bytes t ≡ done) × (c ≡ held found)
+  unfolding accepted_of
+  accepted_yes c h = done_is (open_answer bytes t) (held found) h
+
+  -- ---- what is placed
+
+  module _ (h : open_answer bytes t ≡ done) where
+    fits : CircuitFits t.of_matrix found
+    fits = circuit_fits t.of_matrix found (listing_accepted t.of_matrix bytes (open_shows h).0)
+
+    pub open_shaped : Shaped found.inputs (length found.outs) (length found.gates)
+    open_shaped = fits.shape
+
+    pub open_short : length t.bytes ≤ most_values
+    open_short =
+        let n = found.inputs in
+        let m = length found.outs in
+        let b = brings n m t (open_shows h).1 in
+        omega (arith, target_short n m (target_in n m t) fits.shape.n_most fits.shape.m_most b.fits, ap length b.bytes)
+
+    pub open_placed : (l : Limits) → placed_of (held found) t.of_matrix t.bytes l ≡ full_bench (open_state bytes t l)
+    open_placed l =
+        let n = found.inputs in
+        let m = length found.outs in
+        let b = brings n m t (open_shows h).1 in
+        let same = sym (kind_by t.of_matrix n m t.bytes) in
+        (λ i. placed_of (held found) (same i) (sym b.bytes i) l)
+        ∙ placed_full (open_state bytes t l) (subst (λ (only : Bool). CircuitFits only found) same fits) b.fits
 
 -- ---- the call
 
 module _ (b : Bench) (bytes : List ℕ) (t : Brought) (l : Limits) where
-  pub open_refused : (w : Refusal) (r : Opened) → open_answer bytes t ≡ Refused w → r ≡ record { bench = b; answer = Refused w }
-      → OpenPromise b bytes t l r.answer r.bench
-  open_refused w r e is = (
-    ap (λ (x : Opened). x.answer) is ∙ sym e,
-    ap (λ (x : Opened). x.bench) is ∙ ap (λ (x : Answer). bench_after_open x (open_state bytes t l) b) (sym e),
-  )
+  pub open_refused : (w : Refusal) → open_answer bytes t ≡ Err w → OpenPromise b bytes t l (Err w) b
+  open_refused w e = (sym e, ap (λ (x : Answer). bench_after_open x (open_state bytes t l) b) (sym e))
 
-  pub open_done : (next : Bench) → open_answer bytes t ≡ Done → next ≡ full_bench (open_state bytes t l) → OpenPromise b bytes t l Done next
+  pub open_done : (next : Bench) → open_answer bytes t ≡ done → next ≡ full_bench (open_state bytes t l) → OpenPromise b bytes t l done next
   open_done next e f = (sym e, f ∙ ap (λ (x : Answer). bench_after_open x (open_state bytes t l) b) (sym e))
 
   -- on a bench that stands for something the bench after it is the one of what is present then
   pub open_stands : {p : Present} → Stands b p → bench_after_open (open_answer bytes t) (open_state bytes t l) b ≡ bench_of (after_open p bytes t l)
   open_stands {p} k = by (open_answer bytes t) where
     by : (a : Answer) → bench_after_open a (open_state bytes t l) b ≡ bench_of (after a (open_state bytes t l) p)
-    by Done = refl
-    by (Refused w) = k.is
-
-module _ (only : Bool) (bytes tb : List ℕ) where
-  abbrev pub given : Brought
-  given = brought only tb
-
-  abbrev pub found : Listing
-  found = listing_in bytes
-
-  -- the reader's answer, then the target
-  pub open-answer : (a : Answer) (t : Bool) → reading_answer only bytes ≡ a → brought_fits found.inputs (length found.outs) given ≡ t
-      → open_answer bytes given ≡ and_then a (unless t BadTarget Done)
-  unfolding open_answer
-  open-answer a t p q = λ i. and_then (p i) (unless (q i) BadTarget Done)
-
-  -- the reader refuses
-  pub open_unread : (r : Reading) → r ≡ reading_of only bytes → (w : Refusal) → r.answer ≡ Refused w → open_answer bytes given ≡ Refused w
-  open_unread r is w h = open-answer (Refused w) _ (sym (read_answer only bytes r is) ∙ h) refl
-
-  -- the reader accepts
-  module _ (r : Reading) (is : r ≡ reading_of only bytes) (h : r.answer ≡ Done) where
-    pub open_read : (t : Bool) → brought_fits r.circuit.n r.circuit.m given ≡ t → open_answer bytes given ≡ unless t BadTarget Done
-    open_read t f =
-        let e = read_circuit only bytes r is h in
-        open-answer Done t (sym (read_answer only bytes r is) ∙ h) ((λ i. brought_fits (sym e i).n (sym e i).m given) ∙ f)
-
-    module _ (f : brought_fits r.circuit.n r.circuit.m given ≡ true) where
-      pub open_short : length tb ≤ most_values
-      open_short =
-          let k = read_shaped only bytes r is h in
-          let b = brings r.circuit.n r.circuit.m given f in
-          omega (arith, target_short r.circuit.n r.circuit.m (target_in r.circuit.n r.circuit.m given) k.n_most k.m_most b.fits, ap length b.bytes)
-
-      pub open_placed : (l : Limits) → placed_of r.circuit only tb l ≡ full_bench (open_state bytes given l)
-      open_placed l =
-          let e = read_circuit only bytes r is h in
-          let n = found.inputs in
-          let m = length found.outs in
-          let b = brings n m given ((λ i. brought_fits (sym e i).n (sym e i).m given) ∙ f) in
-          let k = circuit_fits only found (listing_accepted only bytes (sym (read_answer only bytes r is) ∙ h)) in
-          let same = sym (kind_by only n m tb) in
-          (λ i. placed_of (e i) (same i) (sym b.bytes i) l)
-          ∙ placed_full (open_state bytes given l) (subst (λ (t : Bool). CircuitFits t found) same k) b.fits
+    by (Ok _) = refl
+    by (Err w) = k.is

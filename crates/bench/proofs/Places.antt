@@ -7,11 +7,10 @@ use mathlib.Core.List.{List, [], ◌∷◌, ◌++◌, append-nil, Memᴰ}
 use Prim.Native.Nat.{ℕ, zero, suc, ◌≤◌, ◌<◌, ◌-◌, ◌+◌}
 use native.Mathlib.Omega.{arith}
 use lib.ListN.{length, get_or, set, replicate, length-append}
-use Rattle.circuit.specs.declared.Answer.TheVariants.{Done}
 use Rattle.circuit.specs.Lines.{padded}
 use Rattle.circuit.specs.Sizes.{most_lines}
 use Rattle.circuit.proofs.Padding.{padded-put}
-use Rattle.bench.specs.declared.Edit.{Edit}
+use Rattle.bench.specs.declared.Reworked.{Reworked}
 use Rattle.bench.specs.Calls.{places_from, size_of, reworking}
 
 -- the places in two lists, one after the other
@@ -97,13 +96,13 @@ places_ascend i (false ∷ xs) a b h l = places_ascend (suc i) xs a b h l
 
 -- ---- the list as it grows, a line at a time
 
--- these lines, and so many of them, are an accepted edit's answer with that set
+-- these lines, and so many of them, are that set as it is answered
 abbrev pub Tells : List ℕ → ℕ → List Bool → Type 0
-Tells lines count marks = ◌≡◌ {A = Edit} (record { answer = Done; lines = lines; count = count }) (reworking marks)
+Tells lines count marks = ◌≡◌ {A = Reworked} (record { lines = lines; count = count }) (reworking marks)
 
--- what makes two answers one: the same list
+-- what makes two of them one: the same list
 told : (lines : List ℕ) (count : ℕ) (marks : List Bool) → lines ≡ padded most_lines 0 (places_from 0 marks) → count ≡ length (places_from 0 marks) → Tells lines count marks
-told lines count marks p q = let n = q ∙ sym (size_places 0 marks) in λ i. record { answer = Done; lines = p i; count = n i }
+told lines count marks p q = let n = q ∙ sym (size_places 0 marks) in λ i. record { lines = p i; count = n i }
 
 -- no line
 pub tells_none : (m : ℕ) → Tells (replicate most_lines 0) 0 (replicate m false)
@@ -116,7 +115,7 @@ module _ (lines : List ℕ) (count : ℕ) (marks : List Bool) (t : Tells lines c
   L = places_from 0 marks
 
   counts : count ≡ length L
-  counts = ap (λ (e : Edit). e.count) t ∙ size_places 0 marks
+  counts = ap (λ (e : Reworked). e.count) t ∙ size_places 0 marks
 
   places_next : (x : Bool) → places_from 0 (marks ++ (x ∷ [])) ≡ L ++ cond x (length marks ∷ []) []
   unfolding places_from
@@ -129,11 +128,11 @@ module _ (lines : List ℕ) (count : ℕ) (marks : List Bool) (t : Tells lines c
   tells_hit v e h =
       let n = places_next true in
       told (set lines count v) (count + 1) (marks ++ (true ∷ []))
-      (ap₂ (λ (l : List ℕ) (y : ℕ). set l count y) (ap (λ (e : Edit). e.lines) t) e ∙ padded-put most_lines 0 L count (length marks) counts h ∙ ap (padded most_lines 0) (sym n))
+      (ap₂ (λ (l : List ℕ) (y : ℕ). set l count y) (ap (λ (e : Reworked). e.lines) t) e ∙ padded-put most_lines 0 L count (length marks) counts h ∙ ap (padded most_lines 0) (sym n))
       (sym (ap length n ∙ length-append L (length marks ∷ []) ∙ ap (λ (x : ℕ). x + 1) (sym counts)))
 
   -- a line more that is not
   pub tells_miss : Tells lines count (marks ++ (false ∷ []))
   tells_miss =
       let n = sym (places_next false ∙ append-nil L) in
-      told lines count (marks ++ (false ∷ [])) (ap (λ (e : Edit). e.lines) t ∙ ap (padded most_lines 0) n) (counts ∙ ap length n)
+      told lines count (marks ++ (false ∷ [])) (ap (λ (e : Reworked). e.lines) t ∙ ap (padded most_lines 0) n) (counts ∙ ap length n)

@@ -1,4 +1,5 @@
 -- The lines that an edit of gate k reworks, said without the examination: that gate's line, and every line whose gate reads one of them. Assumes nothing.
+use Rattle.circuit.specs.Rules.{Answer, done}
 use mathlib.Core.Path.{◌≡◌, refl, ap, ◌∙◌, sym, subst}
 use mathlib.Core.Bool.{Bool, true, false, true≢false, ◌||◌}
 use mathlib.Core.Logic.{◌⊎◌, inl, inr, ⊎_elim}
@@ -9,8 +10,6 @@ use native.Mathlib.Omega.{arith}
 use borrow.Author.Tests.{eqb-true, eq-eqb}
 use lib.Dec.{eqb}
 use lib.ListN.{length, get_or, replicate, length-replicate, get_or-eq_default}
-use Rattle.circuit.specs.declared.Answer.{Answer}
-use Rattle.circuit.specs.declared.Answer.TheVariants.{Done}
 use Rattle.circuit.specs.Lines.{Listing, gate_at, reads, lines, any_of, reach_step, reached, padded}
 use Rattle.circuit.specs.Sizes.{most_lines}
 use Rattle.circuit.proofs.Keep.{Below}
@@ -21,7 +20,7 @@ use Rattle.circuit.proofs.RuleLaws.{circuit_fits}
 use Rattle.targets.specs.Target.{is_matrix}
 use Rattle.bench.specs.State.{State, Sound, present}
 use Rattle.bench.specs.Parts.{AllBelow}
-use Rattle.bench.specs.Calls.{places_from, readers_of, reworking, edit_by, gate_edit, gate_edit_answer}
+use Rattle.bench.specs.Calls.{places_from, readers_of, reworking, edit_by, listed_in, gate_edit, gate_edit_answer}
 use Rattle.bench.proofs.Standing.{all_below}
 use Rattle.bench.proofs.Places.{listed-marked, marked-listed, size_places, places_ascend}
 use Rattle.bench.proofs.Replacing.{edit_fits}
@@ -162,10 +161,10 @@ reworking_lists c k below there =
     }
 
 -- an accepted replacement of gate k answers that gate's line and every line that reads it, directly or through others, and no more
-pub gate_edit_lists : (s : State) (k kind a b : ℕ) → Sound s → gate_edit_answer (present s) k kind a b ≡ Done
-    → let e = gate_edit (present s) k kind a b in Lists s.circuit k e.lines e.count
+pub gate_edit_lists : (s : State) (k kind a b : ℕ) → Sound s → gate_edit_answer (present s) k kind a b ≡ done
+    → let e = listed_in (gate_edit (present s) k kind a b) in Lists s.circuit k e.lines e.count
 gate_edit_lists s k kind a b ok h =
     let c = s.circuit in
     let only = is_matrix s.target in
-    subst (λ (x : Answer). let e = edit_by x (readers_of c k) in Lists c k e.lines e.count) (sym h)
+    subst (λ (x : Answer). let e = listed_in (edit_by x (readers_of c k)) in Lists c k e.lines e.count) (sym h)
     (reworking_lists c k (all_below only c (circuit_fits only c ok.circuit)) (edit_fits s k kind a b h).there)

@@ -1,5 +1,7 @@
 -- A gate set on the bench of a state, one that is there or the next: what the bench holds then, and that reworking the gate's readers
 -- gives the bench of the new state. Assumes nothing.
+use Rattle.std.specs.Prelude.{Ok, Err}
+use Rattle.circuit.specs.Rules.{Answer, done}
 use mathlib.Core.Path.{◌≡◌, ap, ◌∙◌, sym, subst}
 use mathlib.Core.List.{List}
 use Prim.Native.Nat.{ℕ, suc, ◌≤◌, ◌<◌, ◌+◌, ◌%◌, max}
@@ -8,8 +10,6 @@ use native.Mathlib.Omega.{arith}
 use mathlib.Core.Bool.{Bool}
 use lib.ListN.{length, get_or, set, replicate}
 use lib.Seq.{set-get_or}
-use Rattle.circuit.specs.declared.Answer.{Answer}
-use Rattle.circuit.specs.declared.Answer.TheVariants.{Done, Refused}
 use Rattle.circuit.specs.declared.Refusal.{Refusal}
 use Rattle.circuit.specs.Gate.{no_words}
 use Rattle.circuit.specs.Lines.{Gate, gate, gate_at, with_gates, reach_step}
@@ -19,23 +19,22 @@ use Rattle.circuit.proofs.LineLaws.{lines_agree}
 use Rattle.circuit.proofs.RuleLaws.{GateFits, CircuitFits}
 use Rattle.targets.specs.Target.{is_matrix}
 use Rattle.bench.specs.declared.Bench.{Bench}
-use Rattle.bench.specs.declared.Edit.{Edit}
 use Rattle.bench.specs.State.{State, with_circuit, Present}
 use Rattle.bench.specs.Held.{full_bench, bench_of, holding, recircuited}
 use Rattle.bench.specs.Parts.{gate_on, examined_as, AllBelow, Agree, regated, HeldBut, Reexamined}
-use Rattle.bench.specs.Calls.{after, readers_of, reworking, no_rework, edit_by}
+use Rattle.bench.specs.Calls.{Edit, after, readers_of, reworking, no_rework, edit_by}
 use Rattle.bench.proofs.Standing.{all_below, gate-of, examined_full}
 
 -- ---- what is given by what was looked at
 
 -- a refusal leaves what was present, and reworks nothing
-pub refused_given : (x : Answer) (w : Refusal) (marks : List Bool) (s : State) (p : Present) → x ≡ Refused w
-    → (no_rework (Refused w) ≡ edit_by x marks) × (bench_of p ≡ bench_of (after x s p))
+pub refused_given : (x : Answer) (w : Refusal) (marks : List Bool) (s : State) (p : Present) → x ≡ Err w
+    → (no_rework (Err w) ≡ edit_by x marks) × (bench_of p ≡ bench_of (after x s p))
 refused_given x w marks s p e = (ap (λ (y : Answer). edit_by y marks) (sym e), ap (λ (y : Answer). bench_of (after y s p)) (sym e))
 
 -- an acceptance brings the new state, and reworks the lines that are marked
-pub done_given : (x : Answer) (marks : List Bool) (s : State) (p : Present) → x ≡ Done
-    → (reworking marks ≡ edit_by x marks) × (full_bench s ≡ bench_of (after x s p))
+pub done_given : (x : Answer) (marks : List Bool) (s : State) (p : Present) → x ≡ done
+    → (Ok (reworking marks) ≡ edit_by x marks) × (full_bench s ≡ bench_of (after x s p))
 done_given x marks s p e = (ap (λ (y : Answer). edit_by y marks) (sym e), ap (λ (y : Answer). bench_of (after y s p)) (sym e))
 
 -- the code stores the low byte and the low 16 bits, which of an accepted gate are the numbers themselves
@@ -101,8 +100,8 @@ module _ (s : State) (k : ℕ) (qs : List Gate) where
     fresh_bench old agree was r x e = e.fresh stale_below old (λ j ne. stale_gate j ∙ agree j ne) was ∙ examined_full next fits
 
     -- what it lists
-    pub fresh_lines : (r : Bench) (x : Edit) → Reexamined stale k r x → x ≡ reworking (readers_of next.circuit k)
+    pub fresh_lines : (r : Bench) (x : Edit) → Reexamined stale k r x → x ≡ Ok (reworking (readers_of next.circuit k))
     unfolding stale full_bench
     fresh_lines r x e =
-        e.listed ∙ ap reworking
+        e.listed ∙ ap (λ (m : List Bool). Ok (reworking m))
         (lines_agree (reach_step k) _ (replicate s.circuit.inputs _) (gate_at next.circuit) (gate_on stale) (length qs) (λ i h. stale_gate i))

@@ -1,4 +1,6 @@
 -- Replacing a gate: what is looked at, that a sound state stays sound, which lines are reworked, and what the bench holds after it. Assumes nothing.
+use Rattle.std.specs.Prelude.{Ok, Err}
+use Rattle.circuit.specs.Rules.{Answer, done}
 use mathlib.Core.Path.{◌≡◌, refl, ap, ap₂, ◌∙◌, sym, subst}
 use mathlib.Core.Bool.{Bool, true, false, ◌||◌}
 use mathlib.Core.List.{List, [], ◌∷◌, ◌++◌, map}
@@ -8,8 +10,6 @@ use borrow.Author.Tests.{ltb-true, eqb-false}
 use lib.Dec.{ltb, eqb}
 use lib.ListN.{length, get_or, set, take, replicate, length-set, length-map}
 use lib.Seq.{get_or-set_other}
-use Rattle.circuit.specs.declared.Answer.{Answer}
-use Rattle.circuit.specs.declared.Answer.TheVariants.{Done, Refused}
 use Rattle.circuit.specs.declared.Refusal.{Refusal}
 use Rattle.circuit.specs.declared.Refusal.TheVariants.{NothingOpen, NotThere}
 use Rattle.circuit.specs.Gate.{no_words}
@@ -22,12 +22,11 @@ use Rattle.circuit.proofs.Padding.{padded-set}
 use Rattle.circuit.proofs.RuleLaws.{GateFits, gate_fits, GatesDone, OutsDone, circuit_fits, fits_circuit}
 use Rattle.targets.specs.Target.{is_matrix}
 use Rattle.bench.specs.declared.Bench.{Bench}
-use Rattle.bench.specs.declared.Edit.{Edit}
 use Rattle.bench.specs.declared.Edited.{Edited}
 use Rattle.bench.specs.State.{State, Sound, SoundPresent, Present, nothing, present}
 use Rattle.bench.specs.Held.{empty_bench, full_bench, bench_of, Stands, holding}
-use Rattle.bench.specs.Parts.{entries, examined_as, Agree, regated, Reexamined, standing, gate_look, Reworked}
-use Rattle.bench.specs.Calls.{gate_edit_answer, gate_edited, after, after_gate, readers_of, reworking, no_rework, gate_edit, GatePromise}
+use Rattle.bench.specs.Parts.{open_on, entries, examined_as, Agree, regated, Reexamined, gate_look, GateSet}
+use Rattle.bench.specs.Calls.{Edit, gate_edit_answer, gate_edited, after, after_gate, readers_of, reworking, no_rework, gate_edit, GatePromise}
 use Rattle.bench.proofs.Standing.{full_examined, full_standing}
 use Rattle.bench.proofs.Setting.{map-set, set_each}
 use Rattle.bench.proofs.Stood.{standing-shaped}
@@ -41,22 +40,22 @@ pub record LookFits (only : Bool) (n m g k kind a b : ℕ) : Type 0 where
   pub there : k < g
   pub gate : GateFits only (n + k) (gate kind a b)
 
-pub look_fits : (opened only : Bool) (n m g k kind a b : ℕ) (r : Answer) → r ≡ gate_look opened only n m g k kind a b → r ≡ Done
-    → LookFits only n m g k kind a b
+pub look_fits : (z : Bench) (k kind a b : ℕ) (r : Answer) → r ≡ gate_look z k kind a b → r ≡ done
+    → LookFits z.is_matrix z.n z.m z.g k kind a b
 unfolding gate_look
-look_fits opened only n m g k kind a b r e h =
-    let p = past (standing opened n m g) NothingOpen (sym e ∙ h) in
-    let q = past (ltb k g) NotThere p.1 in
-    record { shape = standing-shaped opened n m g p.0; there = ltb-true k g q.0; gate = gate_fits only (n + k) (gate kind a b) q.1 }
+look_fits z k kind a b r e h =
+    let p = past (open_on z) NothingOpen (sym e ∙ h) in
+    let q = past (ltb k z.g) NotThere p.1 in
+    record { shape = standing-shaped z.is_open z.n z.m z.g p.0; there = ltb-true k z.g q.0; gate = gate_fits z.is_matrix (z.n + k) (gate kind a b) q.1 }
 
 -- on a right bench it is what the edit answers
 look_is : (z : Bench) (p : Present) → Stands z p → (k kind a b : ℕ)
-    → gate_look z.is_open z.is_matrix z.n z.m z.g k kind a b ≡ gate_edit_answer p k kind a b
+    → gate_look z k kind a b ≡ gate_edit_answer p k kind a b
 unfolding gate_look gate_edit_answer empty_bench full_bench
 look_is z nothing st k kind a b =
-    ap (λ (z : Bench). gate_look z.is_open z.is_matrix z.n z.m z.g k kind a b) st.is
+    ap (λ (z : Bench). gate_look z k kind a b) st.is
 look_is z (present s) st k kind a b =
-    ap (λ (z : Bench). gate_look z.is_open z.is_matrix z.n z.m z.g k kind a b) st.is
+    ap (λ (z : Bench). gate_look z k kind a b) st.is
     ∙ ap (λ (t : Bool). unless t NothingOpen (gate_edit_answer (present s) k kind a b)) (full_standing s st.sound)
 
 -- ---- the state after it
@@ -64,22 +63,22 @@ look_is z (present s) st k kind a b =
 -- what an accepted edit shows
 pub record EditFits (s : State) (k kind a b : ℕ) : Type 0 where
   pub there : k < length s.circuit.gates
-  pub gate : gate_answer (is_matrix s.target) (s.circuit.inputs + k) (gate kind a b) ≡ Done
+  pub gate : gate_answer (is_matrix s.target) (s.circuit.inputs + k) (gate kind a b) ≡ done
 
-pub edit_fits : (s : State) (k kind a b : ℕ) → gate_edit_answer (present s) k kind a b ≡ Done → EditFits s k kind a b
+pub edit_fits : (s : State) (k kind a b : ℕ) → gate_edit_answer (present s) k kind a b ≡ done → EditFits s k kind a b
 unfolding gate_edit_answer
 edit_fits s k kind a b h =
     let p = past (ltb k (length s.circuit.gates)) NotThere h in
     record { there = ltb-true k (length s.circuit.gates) p.0; gate = p.1 }
 
 -- the gates of a circuit with an accepted gate in the place of another are accepted
-gates_kept : (only : Bool) (line : ℕ) (qs : List Gate) (k : ℕ) (q : Gate) → gate_answer only (line + k) q ≡ Done
+gates_kept : (only : Bool) (line : ℕ) (qs : List Gate) (k : ℕ) (q : Gate) → gate_answer only (line + k) q ≡ done
     → GatesDone only line qs → GatesDone only line (set qs k q)
 gates_kept only line qs k q h all =
-    set_each (λ (j : ℕ) (g : Gate). gate_answer only (line + j) g ≡ Done) qs k q no_gate h all
+    set_each (λ (j : ℕ) (g : Gate). gate_answer only (line + j) g ≡ done) qs k q no_gate h all
 
 -- an accepted edit keeps every rule
-pub sound_kept : (s : State) (k kind a b : ℕ) → Sound s → gate_edit_answer (present s) k kind a b ≡ Done → Sound (gate_edited s k kind a b)
+pub sound_kept : (s : State) (k kind a b : ℕ) → Sound s → gate_edit_answer (present s) k kind a b ≡ done → Sound (gate_edited s k kind a b)
 sound_kept s k kind a b ok h =
     let only = is_matrix s.target in
     let c = s.circuit in
@@ -103,8 +102,8 @@ pub sound_after : (p : Present) (k kind a b : ℕ) → SoundPresent p → SoundP
 sound_after nothing k kind a b ok = ok
 sound_after (present s) k kind a b ok = go (gate_edit_answer (present s) k kind a b) refl where
   go : (x : Answer) → gate_edit_answer (present s) k kind a b ≡ x → SoundPresent (after x (gate_edited s k kind a b) (present s))
-  go Done e = sound_kept s k kind a b ok e
-  go (Refused w) e = ok
+  go (Ok _) e = sound_kept s k kind a b ok e
+  go (Err w) e = ok
 
 -- ---- which lines are reworked
 
@@ -168,7 +167,7 @@ module _ (s : State) (k kind a b : ℕ) where
       reached_same k c.inputs (gate_at c) (gate_at (with_gate c k Q)) agrees (length changed) ∙ ap (reached k c.inputs (gate_at c)) same_count
 
 -- an accepted edit, on a bench that stands for p
-done_edit : (z : Bench) (p : Present) → Stands z p → (k kind a b : ℕ) → gate_edit_answer p k kind a b ≡ Done
+done_edit : (z : Bench) (p : Present) → Stands z p → (k kind a b : ℕ) → gate_edit_answer p k kind a b ≡ done
     → (r : Bench) (x : Edit) → Reexamined (regated z k kind a b) k r x → (x ≡ gate_edit p k kind a b) × (r ≡ bench_of (after_gate p k kind a b))
 unfolding gate_edit_answer
 done_edit z nothing st k kind a b h r x e = let y : ◌≡◌ {A = ℕ} 0 1 = cc in absurd (omega arith)
@@ -180,13 +179,13 @@ done_edit z (present s) st k kind a b h r x e =
     let done = subst (λ (z : Bench). Reexamined z k r x) is e in
     let held = held_all (stale s k qs) k (gate_at s.circuit) (stale_was s k kind a b f.shape.n_most) in
     let given = done_given (gate_edit_answer (present s) k kind a b) (readers_of s.circuit k) (gate_edited s k kind a b) (present s) h in (
-      fresh_lines s k qs f r x done ∙ ap reworking (readers_same s k kind a b) ∙ given.0,
+      fresh_lines s k qs f r x done ∙ ap (λ (m : List Bool). Ok (reworking m)) (readers_same s k kind a b) ∙ given.0,
       fresh_bench s k qs f (gate_at s.circuit) (agrees s k kind a b) held r x done ∙ given.1,
     )
 
 -- a refused one leaves what was present, and reworks nothing
-refused_edit : (p : Present) (k kind a b : ℕ) (w : Refusal) → gate_edit_answer p k kind a b ≡ Refused w
-    → (no_rework (Refused w) ≡ gate_edit p k kind a b) × (bench_of p ≡ bench_of (after_gate p k kind a b))
+refused_edit : (p : Present) (k kind a b : ℕ) (w : Refusal) → gate_edit_answer p k kind a b ≡ Err w
+    → (no_rework (Err w) ≡ gate_edit p k kind a b) × (bench_of p ≡ bench_of (after_gate p k kind a b))
 unfolding gate_edit_answer
 refused_edit nothing k kind a b w e = (ap no_rework (sym e), refl)
 refused_edit (present s) k kind a b w e =
@@ -194,12 +193,12 @@ refused_edit (present s) k kind a b w e =
 
 -- so what is given, by what was looked at, is what the edit promises
 pub gate_given : (z : Bench) (k kind a b kind' a' b' : ℕ) (look : Answer) (r : Edited)
-    → look ≡ gate_look z.is_open z.is_matrix z.n z.m z.g k kind a b → kind' ≡ kind % 256 → a' ≡ a % held16 → b' ≡ b % held16
-    → Reworked look z k kind' a' b' r → GatePromise z k kind a b r.edit r.bench
-gate_given z k kind a b kind' a' b' (Refused w) r is ek ea eb h p st =
+    → look ≡ gate_look z k kind a b → kind' ≡ kind % 256 → a' ≡ a % held16 → b' ≡ b % held16
+    → GateSet look z k kind' a' b' r → GatePromise z k kind a b r.edit r.bench
+gate_given z k kind a b kind' a' b' (Err w) r is ek ea eb h p st =
     let e = refused_edit p k kind a b w (sym (look_is z p st k kind a b) ∙ sym is) in
     (ap (λ (x : Edited). x.edit) h ∙ e.0, ap (λ (x : Edited). x.bench) h ∙ st.is ∙ e.1)
-gate_given z k kind a b kind' a' b' Done r is ek ea eb h p st =
-    let o = look_fits _ _ _ _ _ k kind a b Done is refl in
+gate_given z k kind a b kind' a' b' (Ok _) r is ek ea eb h p st =
+    let o = look_fits _ k kind a b done is refl in
     done_edit z p st k kind a b (sym (look_is z p st k kind a b) ∙ sym is) r.bench r.edit
     (subst (λ (y : Bench). Reexamined y k r.bench r.edit) (low_gate z k _ kind a b kind' a' b' _ o.gate (omega (arith, o.shape, o.there)) ek ea eb) h)

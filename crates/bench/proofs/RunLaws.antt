@@ -1,5 +1,7 @@
 -- After any calls the bench stands for what the definition says is present, so a report is that of a first-time examination; and a gate edit
 -- leaves what is held for the lines that it does not rework. Assumes nothing.
+use Rattle.std.specs.Prelude.{Result, Ok, Err}
+use Rattle.circuit.specs.Rules.{Answer, done}
 use mathlib.Core.Path.{◌≡◌, refl, ap, ◌∙◌, sym, subst}
 use mathlib.Core.Bool.{false}
 use mathlib.Core.List.{List, [], ◌∷◌, ◌++◌}
@@ -7,8 +9,7 @@ use Prim.Native.Nat.{ℕ, ◌<◌, ◌-◌}
 use lib.ListN.{length, get_or, take, replicate, length-set, length-replicate}
 use lib.Seq.{get_or-set_other, set-get_or}
 use borrow.Author.Tests.{lt-ltb}
-use Rattle.circuit.specs.declared.Answer.{Answer}
-use Rattle.circuit.specs.declared.Answer.TheVariants.{Done, Refused}
+use Rattle.circuit.specs.declared.Refusal.{Refusal}
 use Rattle.circuit.specs.declared.Refusal.TheVariants.{Target as BadTarget, NotThere}
 use Rattle.circuit.specs.Gate.{no_words}
 use Rattle.circuit.specs.Lines.{Gate, Listing, no_gate, gate_at, lines, depth_step, and_depth_step, words_step, input_words, reached, padded, gate, with_gate, with_gates}
@@ -23,11 +24,10 @@ use Rattle.stored.proofs.Round.{listing-stored, answer_stored}
 use Rattle.targets.specs.Target.{is_matrix, Brought, as_brought, target_in, brought_fits}
 use Rattle.targets.proofs.Bytes.{brought-back, brought-fits}
 use Rattle.bench.specs.declared.Bench.{Bench}
-use Rattle.bench.specs.declared.Edit.{Edit}
-use Rattle.bench.specs.declared.Reported.{Reported}
+use Rattle.bench.specs.declared.Report.{Report}
 use Rattle.bench.specs.State.{Limits, State, state, with_circuit, with_target, Present, nothing, present, Sound, SoundPresent}
 use Rattle.bench.specs.Held.{empty_bench, full_bench, bench_of, Stands}
-use Rattle.bench.specs.Calls.{after, open_answer, open_state, gate_edit_answer, gate_edited, after_gate, readers_of, edit_by, gate_edit, reported, output_edit_answer, entry_edit_answer, limits_answer, no_rework, sweep_edit, append_edit, store_answer, stored_of, View, as_they_are, bench_after_open, GatePromise, ReportPromise}
+use Rattle.bench.specs.Calls.{Edit, after, open_answer, open_state, gate_edit_answer, gate_edited, after_gate, readers_of, edit_by, gate_edit, reported, output_edit_answer, entry_edit_answer, limits_answer, no_rework, sweep_edit, append_edit, store_answer, stored_of, View, as_they_are, bench_after_open, GatePromise, ReportPromise}
 use Rattle.bench.specs.Run.{Call, after_call, present_from, present_after, StepGiven, RunsBy, Runs}
 use Rattle.bench.specs.Run.Call.{opening, replacing, pointing, changing, limiting, sweeping, appending, reporting, storing}
 use Rattle.bench.proofs.Examining.{inputs-length}
@@ -68,7 +68,7 @@ pub promised_after_calls : (Q : Present → Type 0) {b : Bench} {calls : List Ca
 promised_after_calls Q {calls} run promise = promise (present_after calls) (after-calls run)
 
 -- and a report says exactly what a first-time examination of it says
-pub report_after_calls : {b : Bench} {calls : List Call} {r : Reported} → Runs empty_bench calls b → ReportPromise b r → r ≡ reported (present_after calls)
+pub report_after_calls : {b : Bench} {calls : List Call} {r : Result Report Refusal} → Runs empty_bench calls b → ReportPromise b r → r ≡ reported (present_after calls)
 report_after_calls {r} run promise = promised_after_calls (λ (p : Present). r ≡ reported p) run promise
 
 -- ---- the promises can be met
@@ -111,7 +111,7 @@ step_otherwise u {b} {call} p k step =
     subst (λ (z : Bench). StepGiven u b call z) (sym (step_stands p k step).is) (step_exists u b p k call (callable step))
 
 -- an accepted open is a step from any bench, whatever it holds
-pub open_otherwise : {v : View} (u : View) {b next : Bench} (c : Bench) {bytes : List ℕ} {t : Brought} {l : Limits} → open_answer bytes t ≡ Done
+pub open_otherwise : {v : View} (u : View) {b next : Bench} (c : Bench) {bytes : List ℕ} {t : Brought} {l : Limits} → open_answer bytes t ≡ done
     → StepGiven v b (opening bytes t l) next → StepGiven u c (opening bytes t l) next
 open_otherwise u {b} c {bytes} {t} {l} e (StepGiven.opened answer small promise) =
     let opens : (x : Bench) → bench_after_open (open_answer bytes t) (open_state bytes t l) x ≡ full_bench (open_state bytes t l) =
@@ -143,7 +143,7 @@ present_append p [] more = refl
 present_append p (call ∷ calls) more = present_append (after_call p call) calls more
 
 -- an accepted open replaces everything, whatever was called before it
-pub since_open : (calls since : List Call) (bytes : List ℕ) (t : Brought) (l : Limits) → open_answer bytes t ≡ Done
+pub since_open : (calls since : List Call) (bytes : List ℕ) (t : Brought) (l : Limits) → open_answer bytes t ≡ done
     → present_after (calls ++ opening bytes t l ∷ since) ≡ present_from (present (open_state bytes t l)) since
 since_open calls since bytes t l e =
     present_append nothing calls (opening bytes t l ∷ since)
@@ -152,7 +152,7 @@ since_open calls since bytes t l e =
 -- ---- a first-time examination
 
 -- what is present can be opened as it is, and is then present
-pub opens : (s : State) → Sound s → open_answer (stored s.circuit) (as_brought s.target) ≡ Done
+pub opens : (s : State) → Sound s → open_answer (stored s.circuit) (as_brought s.target) ≡ done
 unfolding open_answer
 opens s ok =
     let c = s.circuit in
@@ -160,7 +160,7 @@ opens s ok =
     let r = answer_stored only c ok.circuit in
     let f = ap (λ (x : Listing). brought_fits x.inputs (length x.outs) (as_brought s.target)) (listing-stored only c ok.circuit)
     ∙ brought-fits c.inputs (length c.outs) s.target ok.target in
-    λ i. and_then (r i) (unless (f i) BadTarget Done)
+    λ i. and_then (r i) (unless (f i) BadTarget done)
 
 pub opens_as : (s : State) → Sound s → present_after (opening (stored s.circuit) (as_brought s.target) s.limits ∷ []) ≡ present s
 opens_as s ok =
@@ -225,8 +225,8 @@ module _ (s : State) (ok : Sound s) (k : ℕ) where
       subst (λ (z : Bench). SameLine z next i) (sym st.is)
       (subst (λ (z : Bench). SameLine (full_bench s) z i) (sym (promise (present s) st).1) (by (gate_edit_answer (present s) k kind x y))) where
         by : (a : Answer) → SameLine (full_bench s) (bench_of (after a (gate_edited s k kind x y) (present s))) i
-        by Done = line_kept kind x y i h
-        by (Refused w) = record { depth = refl; and_depth = refl; values = refl }
+        by (Ok _) = line_kept kind x y i h
+        by (Err w) = record { depth = refl; and_depth = refl; values = refl }
 
   -- ---- a gate replaced by itself
 
@@ -235,7 +235,7 @@ module _ (s : State) (ok : Sound s) (k : ℕ) where
 
   module _ (there : k < length s.circuit.gates) where
     -- it is accepted
-    pub itself_accepted : gate_edit_answer (present s) k own.kind own.left own.right ≡ Done
+    pub itself_accepted : gate_edit_answer (present s) k own.kind own.left own.right ≡ done
     unfolding gate_edit_answer
     itself_accepted =
         let only = is_matrix s.target in
@@ -252,6 +252,6 @@ module _ (s : State) (ok : Sound s) (k : ℕ) where
         λ i. after (itself_accepted i) (e i) (present s)
 
     -- and it reworks the lines that any other accepted replacement of the gate reworks
-    pub itself_reworks : (kind x y : ℕ) → gate_edit_answer (present s) k kind x y ≡ Done
+    pub itself_reworks : (kind x y : ℕ) → gate_edit_answer (present s) k kind x y ≡ done
         → gate_edit (present s) k own.kind own.left own.right ≡ gate_edit (present s) k kind x y
     itself_reworks kind x y h = ap (λ (a : Answer). edit_by a (readers_of s.circuit k)) (itself_accepted ∙ sym h)

@@ -1,24 +1,23 @@
 -- Every call keeps what is present sound: an accepted open brings a sound state, an accepted edit of a sound state makes a sound one. Assumes nothing.
+use Rattle.std.specs.Prelude.{Ok, Err}
+use Rattle.circuit.specs.Rules.{Answer, done}
 use mathlib.Core.Path.{◌≡◌, refl, ap, ◌∙◌, sym, subst}
 use mathlib.Core.Bool.{Bool, true}
 use mathlib.Core.List.{List}
 use Prim.Native.Nat.{ℕ, ◌+◌}
 use lib.ListN.{length, length-set}
-use Rattle.circuit.specs.declared.Answer.{Answer}
-use Rattle.circuit.specs.declared.Answer.TheVariants.{Done, Refused}
-use Rattle.circuit.specs.declared.Refusal.TheVariants.{Target as BadTarget}
-use Rattle.circuit.specs.Rules.{unless, shaped, out_answer, listing_answer}
-use Rattle.circuit.proofs.Shapes.{Shaped, past, then_done}
+use Rattle.circuit.specs.Rules.{shaped, out_answer, listing_answer}
+use Rattle.circuit.proofs.Shapes.{Shaped}
 use Rattle.circuit.proofs.RuleLaws.{circuit_fits, fits_circuit}
 use Rattle.stored.specs.Stored.{listing_in}
-use Rattle.stored.specs.Reading.{reading_answer}
 use Rattle.stored.proofs.Round.{listing_accepted}
-use Rattle.targets.specs.Target.{is_matrix, target_fits, Brought, brought_fits}
+use Rattle.targets.specs.Target.{is_matrix, target_fits, Brought}
 use Rattle.targets.proofs.Bytes.{kind_by, brings}
 use Rattle.bench.specs.State.{Limits, State, with_limits, Present, nothing, present, Sound, SoundPresent, LimitsFit}
 use Rattle.bench.specs.Calls.{after, open_answer, open_state, output_edit_answer, output_edited, entry_edit_answer, entry_edited, append_answer, appended}
 use Rattle.bench.specs.Run.{Call, after_call}
 use Rattle.bench.specs.Run.Call.{opening, replacing, pointing, changing, limiting, sweeping, appending, reporting, storing}
+use Rattle.bench.proofs.OpenLaws.{open_shows}
 use Rattle.bench.proofs.Setting.{set_each}
 use Rattle.bench.proofs.EditLaws.{output_there}
 use Rattle.bench.proofs.EntryLaws.{entry_accepted, same_kind}
@@ -26,21 +25,20 @@ use Rattle.bench.proofs.Replacing.{sound_after as gate-sound}
 use Rattle.bench.proofs.Appends.{sound_appended}
 use Rattle.bench.proofs.Sweeps.{sound_sweep}
 
-pub sound_open : (bytes : List ℕ) (t : Brought) (l : Limits) → LimitsFit l → open_answer bytes t ≡ Done → Sound (open_state bytes t l)
-unfolding open_answer
+pub sound_open : (bytes : List ℕ) (t : Brought) (l : Limits) → LimitsFit l → open_answer bytes t ≡ done → Sound (open_state bytes t l)
 sound_open bytes t l small h =
     let c = listing_in bytes in
     let n = c.inputs in
     let m = length c.outs in
-    let p = then_done (reading_answer t.of_matrix bytes) (unless (brought_fits n m t) BadTarget Done) h in
+    let p = open_shows bytes t h in
     record {
       circuit = ap (λ (only : Bool). listing_answer only c) (kind_by t.of_matrix n m t.bytes) ∙ listing_accepted t.of_matrix bytes p.0;
-      target = (brings n m t (past (brought_fits n m t) BadTarget p.1).0).fits;
+      target = (brings n m t p.1).fits;
       limits = small;
     }
 
 module _ (s : State) (ok : Sound s) where
-  pub sound_output : (j line : ℕ) → output_edit_answer (present s) j line ≡ Done → Sound (output_edited s j line)
+  pub sound_output : (j line : ℕ) → output_edit_answer (present s) j line ≡ done → Sound (output_edited s j line)
   sound_output j line h =
       let c = s.circuit in
       let only = is_matrix s.target in
@@ -52,16 +50,16 @@ module _ (s : State) (ok : Sound s) where
           shape = subst (λ (m : ℕ). Shaped c.inputs m (length c.gates)) l f.shape;
           shaped-true = subst (λ (m : ℕ). shaped c.inputs m (length c.gates) ≡ true) l f.shaped-true;
           gates = f.gates;
-          outs = set_each (λ (i o : ℕ). out_answer lines o ≡ Done) c.outs j line 0 (output_there j line s h).1 f.outs;
+          outs = set_each (λ (i o : ℕ). out_answer lines o ≡ done) c.outs j line 0 (output_there j line s h).1 f.outs;
         });
         target = subst (λ (m : ℕ). target_fits c.inputs m s.target ≡ true) l ok.target;
         limits = ok.limits;
       }
 
-  pub sound_entry : (i value constant : ℕ) → entry_edit_answer (present s) i value constant ≡ Done → Sound (entry_edited s i value constant)
+  pub sound_entry : (i value constant : ℕ) → entry_edit_answer (present s) i value constant ≡ done → Sound (entry_edited s i value constant)
   sound_entry i value constant h =
       record {
-        circuit = subst (λ (only : Bool). listing_answer only s.circuit ≡ Done) (same_kind i value constant s.target) ok.circuit;
+        circuit = subst (λ (only : Bool). listing_answer only s.circuit ≡ done) (same_kind i value constant s.target) ok.circuit;
         target = (entry_accepted i value constant s ok h).fits;
         limits = ok.limits;
       }
@@ -71,9 +69,9 @@ module _ (s : State) (ok : Sound s) where
       record { circuit = ok.circuit; target = ok.target; limits = small }
 
 -- a call that gives a sound state where it is accepted
-pub sound_after : (a : Answer) (s : State) (p : Present) → (a ≡ Done → Sound s) → SoundPresent p → SoundPresent (after a s p)
-sound_after Done s p f ok = f refl
-sound_after (Refused w) s p f ok = ok
+pub sound_after : (a : Answer) (s : State) (p : Present) → (a ≡ done → Sound s) → SoundPresent p → SoundPresent (after a s p)
+sound_after (Ok _) s p f ok = f refl
+sound_after (Err w) s p f ok = ok
 
 -- the limits that a call gives can be held
 abbrev pub Callable : Call → Type 0

@@ -6,14 +6,10 @@ use Rattle.circuit.proofs.Shapes.{Shaped, shape_is, both}
 use Rattle.bench.specs.declared.Bench.{Bench}
 use Rattle.bench.specs.State.{State, Sound, Present, nothing, present}
 use Rattle.bench.specs.Held.{empty_bench, full_bench, Stands}
-use Rattle.bench.specs.Parts.{standing}
+use Rattle.bench.specs.Parts.{standing, open_on}
 use Rattle.bench.proofs.Standing.{full_standing}
 
--- something is open on a bench
-abbrev pub open_on : Bench → Bool
-open_on b = standing b.is_open b.n b.m b.g
-
--- then its numbers are those of a circuit
+-- where something is open the numbers are those of a circuit
 pub standing-shaped : (opened : Bool) (n m g : ℕ) → standing opened n m g ≡ true → Shaped n m g
 standing-shaped opened n m g h = shape_is n m g (both opened h).1
 

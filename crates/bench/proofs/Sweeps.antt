@@ -1,4 +1,6 @@
 -- The bench after a sweep is the one that stands for the swept state, and its answer lists the lines of the gates that are kept. Assumes nothing.
+use Rattle.std.specs.Prelude.{Ok, Err}
+use Rattle.circuit.specs.Rules.{done}
 use mathlib.Core.Path.{◌≡◌, refl, ap, ◌∙◌, sym, subst}
 use mathlib.Core.Bool.{Bool, true, false, cond}
 use mathlib.Core.List.{List, [], ◌∷◌, ◌++◌, append-nil, append_assoc}
@@ -6,7 +8,6 @@ use Prim.Native.Nat.{ℕ, ◌+◌, ◌≤◌, ◌<◌}
 use native.Mathlib.Omega.{arith}
 use lib.ListN.{length, set, replicate, length-append, length-replicate, length-map, replicate-append-replicate}
 use Rattle.circuit.specs.declared.Circuit.{Circuit}
-use Rattle.circuit.specs.declared.Answer.TheVariants.{Done, Refused}
 use Rattle.circuit.specs.declared.Refusal.TheVariants.{NothingOpen}
 use Rattle.circuit.specs.Lines.{Listing, gate_at}
 use Rattle.circuit.specs.Rules.{shaped, listing_answer}
@@ -22,15 +23,14 @@ use Rattle.sweep.proofs.Theorems.{swept_accepted}
 use Rattle.targets.specs.Target.{is_matrix, target_fits}
 use Rattle.targets.specs.Wanted.{wanted_of}
 use Rattle.bench.specs.declared.Bench.{Bench}
-use Rattle.bench.specs.declared.Edit.{Edit}
 use Rattle.bench.specs.State.{State, with_circuit, Sound}
 use Rattle.bench.specs.Held.{full_bench, circuit_of, recircuited, retargeted}
-use Rattle.bench.specs.Calls.{reworking, no_rework, SweepPromise}
-use Rattle.bench.specs.Parts.{examined_as, examined}
+use Rattle.bench.specs.Calls.{Edit, reworking, SweepPromise}
+use Rattle.bench.specs.Parts.{open_on, examined_as, examined}
 use Rattle.bench.proofs.Places.{Tells, tells_none, tells_hit}
 use Rattle.bench.proofs.Standing.{examined_full}
 use Rattle.bench.proofs.StoreLaws.{circuit_of_full}
-use Rattle.bench.proofs.Stood.{open_on, standing-shaped, when-open, when_shut}
+use Rattle.bench.proofs.Stood.{standing-shaped, when-open, when_shut}
 
 -- ---- the swept state
 
@@ -59,7 +59,7 @@ swept_range c h =
     (ap (λ (t : Bool). (cond t (held (swept (listed c))) c).n) h, subst (λ (t : Bool). (cond t (held (swept (listed c))) c).g ≤ c.g) (sym h) few)
 
 -- of one that holds a circuit it makes the one that holds the swept circuit
-pub swept-held : (only : Bool) (c : Listing) → listing_answer only c ≡ Done → swept_in (held c) ≡ held (swept c)
+pub swept-held : (only : Bool) (c : Listing) → listing_answer only c ≡ done → swept_in (held c) ≡ held (swept c)
 unfolding swept_in
 swept-held only c ok =
     ap (λ (t : Bool). cond t (held (swept (listed (held c)))) (held c)) (circuit_fits only c ok).shaped-true
@@ -103,16 +103,16 @@ lines_next n k lines v e h t =
 
 -- ---- what the function has to show
 module _ (b : Bench) where
-  pub sweep_shut : open_on b ≡ false → SweepPromise b (no_rework (Refused NothingOpen)) b
+  pub sweep_shut : open_on b ≡ false → SweepPromise b (Err NothingOpen) b
   sweep_shut t = when_shut _ b t (λ e. (refl, e))
 
-  pub sweep_open : (edit : Edit) (next : Bench) → open_on b ≡ true → let c = swept_in (circuit_of b) in edit ≡ reworking (lines_of c.n c.g) → next ≡ examined (recircuited b c)
+  pub sweep_open : (edit : Edit) (next : Bench) → open_on b ≡ true → let c = swept_in (circuit_of b) in edit ≡ Ok (reworking (lines_of c.n c.g)) → next ≡ examined (recircuited b c)
       → SweepPromise b edit next
   unfolding swept
   sweep_open edit next t e x = when-open _ b t
       (λ s ok k.
       let c = ap (λ (z : Bench). swept_in (circuit_of z)) k ∙ ap swept_in (circuit_of_full s) ∙ swept-held (is_matrix s.target) s.circuit ok.circuit in (
-        e ∙ ap (λ (z : Circuit). reworking (lines_of z.n z.g)) c,
+        e ∙ ap (λ (z : Circuit). Ok (reworking (lines_of z.n z.g))) c,
         x ∙ ap (λ (z : Bench). examined (recircuited z (swept_in (circuit_of z)))) k ∙ swept_full s ok,
       ))
 

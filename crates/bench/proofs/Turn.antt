@@ -1,4 +1,5 @@
 -- The loop of `rework`: its invariant, and that a turn keeps it. Assumes nothing.
+use Rattle.std.specs.Prelude.{Ok}
 use mathlib.Core.Path.{◌≡◌, refl, ap, ap₂, ◌∙◌, sym, subst}
 use mathlib.Core.Bool.{Bool, true, false, ◌||◌}
 use mathlib.Core.List.{List, [], ◌∷◌, ◌++◌}
@@ -8,7 +9,6 @@ use borrow.Author.Tests.{eqb-true, eqb-false, eq-eqb}
 use lib.Dec.{eqb}
 use lib.Seq.{get_or-set_same, set-get_or, set_comm}
 use lib.ListN.{length, get_or, set, take, drop, replicate, length-set, length-replicate, replicate-append-replicate, get_or-eq_default}
-use Rattle.circuit.specs.declared.Answer.TheVariants.{Done}
 use Rattle.circuit.specs.declared.Words.{Words}
 use Rattle.circuit.specs.Gate.{no_words}
 use Rattle.circuit.specs.Lines.{Gate, depth_step, and_depth_step, words_step, reach_step, input_words, depths, and_depths, words, reached, second_read}
@@ -230,7 +230,7 @@ module _ (b : Bench) (k : ℕ) (n_most : b.n ≤ most_inputs) (g_most : b.g ≤ 
   }
 
   pub done : {c : Bench} {lines : List ℕ} {count : ℕ} {marks : List Bool} {j : ℕ} → k < b.g → b.g ≤ j → Turn b k c lines count marks j
-      → Reexamined b k c (record { answer = Done; lines = lines; count = count })
+      → Reexamined b k c (Ok (record { lines = lines; count = count }))
   unfolding examined_as
   done {c} {lines} {count} {marks} {j} there h t =
       let e : j ≡ b.g = omega (arith, t.to) in
@@ -243,5 +243,5 @@ module _ (b : Bench) (k : ℕ) (n_most : b.n ≤ most_inputs) (g_most : b.g ≤ 
             let q = kept_done and_depth_step 0 (replicate N 0) N zs old Q k agree b.and_depths b.g more was.and_depth w.ands there c.and_depths f.ands in
             let r = kept_done words_step no_words (take N input_words) N ws old Q k agree b.values b.g more was.value w.values there c.values f.values in
             u.rest ∙ (λ i. holding b (p i) (q i) (r i));
-        listed = u.listed;
+        listed = ap Ok u.listed;
       }

@@ -1,30 +1,26 @@
 -- The calls as functions on what is present: what each answers, what is present after it, and what the code promises of it.
-use Rattle.std.specs.Prelude.{◌≡◌, Bool, true, false, cond, ◌&&◌, List, [], ◌∷◌, ◌++◌, ℕ, suc, ◌+◌, ◌^◌, ltb, eqb, length, set, replicate}
+use Rattle.std.specs.Prelude.{◌≡◌, Result, Ok, Err, Bool, true, false, cond, ◌&&◌, List, [], ◌∷◌, ◌++◌, ℕ, suc, ◌+◌, ◌^◌, ltb, eqb, length, set, replicate}
+use Rattle.circuit.specs.declared.Refusal.{Refusal}
 use Rattle.circuit.specs.declared.Refusal.TheVariants.{Target as BadTarget, NotThere, NothingOpen, Full}
-use Rattle.circuit.specs.declared.Answer.{Answer}
-use Rattle.circuit.specs.declared.Answer.TheVariants.{Done, Refused}
 use Rattle.circuit.specs.Lines.{Listing, gate_at, reached, padded, gate, with_gate, with_more, with_outs}
 use Rattle.circuit.specs.Rows.{row}
-use Rattle.circuit.specs.Rules.{unless, and_then, gate_answer, out_answer}
+use Rattle.circuit.specs.Rules.{Answer, done, unless, and_then, gate_answer, out_answer}
 use Rattle.circuit.specs.Sizes.{most_gates, most_lines}
-use Rattle.stored.specs.declared.Writing.{Writing}
-use Rattle.stored.specs.declared.Writing.TheVariants.{NotWritten}
 use Rattle.stored.specs.Stored.{stored, listing_in}
 use Rattle.stored.specs.Reading.{reading_answer}
-use Rattle.stored.specs.Writing.{into_room, room_after}
+use Rattle.stored.specs.Writing.{Writing, into_room, room_after}
 use Rattle.sweep.specs.Sweep.{swept}
 use Rattle.targets.specs.Target.{Target, matrix, table, is_matrix, row_is_sound, entry_fits, Brought, target_in, brought_fits}
 use Rattle.bench.specs.declared.Bench.{Bench}
-use Rattle.bench.specs.declared.Edit.{Edit}
-use Rattle.bench.specs.declared.Reported.{Reported}
-use Rattle.bench.specs.declared.Reported.TheVariants.{Given, NotGiven}
+use Rattle.bench.specs.declared.Reworked.{Reworked}
+use Rattle.bench.specs.declared.Report.{Report}
 use Rattle.bench.specs.State.{Limits, State, state, with_circuit, with_target, with_limits, Present, nothing, present, report_of}
 use Rattle.bench.specs.Held.{bench_of, Stands}
 
 -- what is present after a call that gives the state s: a refused call leaves what was present
 abbrev pub after : Answer → State → Present → Present
-after Done s p = present s
-after (Refused w) s p = p
+after (Ok _) s p = present s
+after (Err w) s p = p
 
 -- ---- open
 
@@ -32,7 +28,7 @@ after (Refused w) s p = p
 unfoldable pub open_answer : List ℕ → Brought → Answer
 open_answer bytes t =
     let c = listing_in bytes in
-    and_then (reading_answer t.of_matrix bytes) (unless (brought_fits c.inputs (length c.outs) t) BadTarget Done)
+    and_then (reading_answer t.of_matrix bytes) (unless (brought_fits c.inputs (length c.outs) t) BadTarget done)
 
 -- the state that an open brings
 abbrev pub open_state : List ℕ → Brought → Limits → State
@@ -46,7 +42,7 @@ after_open p bytes t l = after (open_answer bytes t) (open_state bytes t l) p
 
 -- replacing gate k: nothing open (13), no such gate (12), then kind (4), operands (5), linear only (7)
 unfoldable pub gate_edit_answer : Present → ℕ → ℕ → ℕ → ℕ → Answer
-gate_edit_answer nothing k kind a b = Refused NothingOpen
+gate_edit_answer nothing k kind a b = Err NothingOpen
 gate_edit_answer (present s) k kind a b =
     unless (ltb k (length s.circuit.gates)) NotThere (gate_answer (is_matrix s.target) (s.circuit.inputs + k) (gate kind a b))
 
@@ -61,7 +57,7 @@ after_gate (present s) k kind a b = after (gate_edit_answer (present s) k kind a
 
 -- pointing output j at a line: nothing open (13), no such output (12), no such line (6)
 unfoldable pub output_edit_answer : Present → ℕ → ℕ → Answer
-output_edit_answer nothing j line = Refused NothingOpen
+output_edit_answer nothing j line = Err NothingOpen
 output_edit_answer (present s) j line =
     unless (ltb j (length s.circuit.outs)) NotThere (out_answer (s.circuit.inputs + length s.circuit.gates) line)
 
@@ -76,13 +72,13 @@ after_output (present s) j line = after (output_edit_answer (present s) j line) 
 
 -- changing entry i of the target: no such row or entry (12), then its rule (8); beside a table's entry the constant is 0
 abbrev pub entry_answer : Listing → Target → ℕ → ℕ → ℕ → Answer
-entry_answer c (matrix rows) i value constant = unless (ltb i (length c.outs)) NotThere (unless (row_is_sound c.inputs (row value constant)) BadTarget Done)
+entry_answer c (matrix rows) i value constant = unless (ltb i (length c.outs)) NotThere (unless (row_is_sound c.inputs (row value constant)) BadTarget done)
 entry_answer c (table entries) i value constant =
-    unless (ltb i (2 ^ c.inputs)) NotThere (unless (entry_fits (length c.outs) value && eqb constant 0) BadTarget Done)
+    unless (ltb i (2 ^ c.inputs)) NotThere (unless (entry_fits (length c.outs) value && eqb constant 0) BadTarget done)
 
 -- changing entry i: nothing open (13), then as above
 unfoldable pub entry_edit_answer : Present → ℕ → ℕ → ℕ → Answer
-entry_edit_answer nothing i value constant = Refused NothingOpen
+entry_edit_answer nothing i value constant = Err NothingOpen
 entry_edit_answer (present s) i value constant = entry_answer s.circuit s.target i value constant
 
 -- the target with entry i changed: mask and constant of a row together
@@ -101,8 +97,8 @@ after_entry (present s) i value constant = after (entry_edit_answer (present s) 
 
 -- setting the limits: nothing open (13)
 abbrev pub limits_answer : Present → Answer
-limits_answer nothing = Refused NothingOpen
-limits_answer (present s) = Done
+limits_answer nothing = Err NothingOpen
+limits_answer (present s) = done
 
 -- what is present after setting the limits
 abbrev pub after_limits : Present → Limits → Present
@@ -120,7 +116,7 @@ most_gates_for c t = most_gates
 
 -- appending a gate: nothing open (13), as many gates there as there may be (18), then kind (4), operands (5), linear only (7)
 unfoldable pub append_answer : Present → ℕ → ℕ → ℕ → Answer
-append_answer nothing kind a b = Refused NothingOpen
+append_answer nothing kind a b = Err NothingOpen
 append_answer (present s) kind a b =
     let c = s.circuit in
     let g = length c.gates in
@@ -151,22 +147,34 @@ size_of (x ∷ xs) = let r = size_of xs in cond x (suc r) r
 abbrev pub readers_of : Listing → ℕ → List Bool
 readers_of c k = reached k c.inputs (gate_at c) (length c.gates)
 
--- an edit's answer with a set of reworked lines
-abbrev pub reworking : List Bool → Edit
-reworking marks = record { answer = Done; lines = padded most_lines 0 (places_from 0 marks); count = size_of marks }
+-- what an edit answers: the lines that it reworked, or why it is refused
+abbrev pub Edit : Type 0
+Edit = Result Reworked Refusal
 
--- an edit's answer with none, as a refusal has
-abbrev pub no_rework : Answer → Edit
-no_rework a = record { answer = a; lines = replicate most_lines 0; count = 0 }
+-- a set of lines, as it is answered
+abbrev pub reworking : List Bool → Reworked
+reworking marks = record { lines = padded most_lines 0 (places_from 0 marks); count = size_of marks }
 
--- an edit's answer: the set where it is accepted, none where it is refused
+-- no line
+abbrev pub no_lines : Reworked
+no_lines = record { lines = replicate most_lines 0; count = 0 }
+
+-- an edit's answer: the set where it is accepted
 abbrev pub edit_by : Answer → List Bool → Edit
-edit_by Done marks = reworking marks
-edit_by (Refused w) marks = no_rework (Refused w)
+edit_by a marks = and_then a (Ok (reworking marks))
+
+-- the answer of an edit that reworks no line
+abbrev pub no_rework : Answer → Edit
+no_rework a = and_then a (Ok no_lines)
+
+-- the lines that an answer lists: none where the edit is refused
+abbrev pub listed_in : Edit → Reworked
+listed_in (Ok r) = r
+listed_in (Err w) = no_lines
 
 -- what replacing a gate answers
 abbrev pub gate_edit : Present → ℕ → ℕ → ℕ → ℕ → Edit
-gate_edit nothing k kind a b = no_rework (Refused NothingOpen)
+gate_edit nothing k kind a b = Err NothingOpen
 gate_edit (present s) k kind a b = edit_by (gate_edit_answer (present s) k kind a b) (readers_of s.circuit k)
 
 -- the set of the lines of a circuit's gates
@@ -175,26 +183,26 @@ gate_lines c = replicate c.inputs false ++ replicate (length c.gates) true
 
 -- what a sweep answers: nothing open (13), or the line of each gate that it keeps, renumbered
 abbrev pub sweep_edit : Present → Edit
-sweep_edit nothing = no_rework (Refused NothingOpen)
-sweep_edit (present s) = reworking (gate_lines (swept s.circuit))
+sweep_edit nothing = Err NothingOpen
+sweep_edit (present s) = Ok (reworking (gate_lines (swept s.circuit)))
 
 -- what appending a gate answers: as for a replaced gate, its own line and each that reads it, and no gate reads it yet
 abbrev pub append_edit : Present → ℕ → ℕ → ℕ → Edit
-append_edit nothing kind a b = no_rework (Refused NothingOpen)
+append_edit nothing kind a b = Err NothingOpen
 append_edit (present s) kind a b =
     edit_by (append_answer (present s) kind a b) (readers_of (with_more s.circuit (gate kind a b)) (length s.circuit.gates))
 
 -- ---- report and store
 
 -- what a report answers
-abbrev pub reported : Present → Reported
-reported nothing = NotGiven NothingOpen
-reported (present s) = Given (report_of s)
+abbrev pub reported : Present → Result Report Refusal
+reported nothing = Err NothingOpen
+reported (present s) = Ok (report_of s)
 
 -- what storing answers, for a room so long: nothing open (13), room too short (11)
 unfoldable pub store_answer : Present → ℕ → Writing
-store_answer nothing room = NotWritten NothingOpen
-store_answer (present s) room = into_room Done (length (stored s.circuit)) room
+store_answer nothing room = Err NothingOpen
+store_answer (present s) room = into_room done (length (stored s.circuit)) room
 
 -- the bytes that are stored
 abbrev pub stored_of : Present → List ℕ
@@ -211,7 +219,7 @@ pub record View : Type 1 where
   pub Writings : Type 0
   pub answer : Answer → Answers
   pub edit : Edit → Edits
-  pub report : Reported → Reports
+  pub report : Result Report Refusal → Reports
   pub writing : Writing → Writings
 
 -- each answer as it is
@@ -220,7 +228,7 @@ as_they_are =
     record {
       Answers = Answer;
       Edits = Edit;
-      Reports = Reported;
+      Reports = Result Report Refusal;
       Writings = Writing;
       answer = λ a. a;
       edit = λ e. e;
@@ -230,8 +238,8 @@ as_they_are =
 
 -- the bench after an open that brings the state s: the one of that state, or after a refusal the bench as it was, whatever it held
 abbrev pub bench_after_open : Answer → State → Bench → Bench
-bench_after_open Done s b = bench_of (present s)
-bench_after_open (Refused w) s b = b
+bench_after_open (Ok _) s b = bench_of (present s)
+bench_after_open (Err w) s b = b
 
 -- of an open: its answer, and the bench after it
 abbrev pub OpenGiven : (v : View) → Bench → List ℕ → Brought → Limits → v.Answers → Bench → Type 0
@@ -302,7 +310,7 @@ abbrev pub AppendPromise : Bench → ℕ → ℕ → ℕ → Edit → Bench → 
 AppendPromise = AppendGiven as_they_are
 
 -- of a report
-abbrev pub ReportPromise : Bench → Reported → Type 0
+abbrev pub ReportPromise : Bench → Result Report Refusal → Type 0
 ReportPromise = ReportGiven as_they_are
 
 -- of storing

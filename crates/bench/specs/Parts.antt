@@ -1,22 +1,21 @@
 -- What the functions inside the bench promise to one another.
-use Rattle.std.specs.Prelude.{◌≡◌, Bool, true, cond, ◌&&◌, List, ◌++◌, ℕ, ◌+◌, ◌-◌, ◌^◌, ◌<◌, ltb, take, set, replicate}
-use Rattle.circuit.specs.declared.Answer.{Answer}
-use Rattle.circuit.specs.declared.Answer.TheVariants.{Done, Refused}
+use Rattle.std.specs.Prelude.{◌≡◌, Result, Ok, Err, Bool, true, cond, ◌&&◌, List, ◌++◌, ℕ, ◌+◌, ◌-◌, ◌^◌, ◌<◌, ltb, take, set, replicate}
+use Rattle.circuit.specs.declared.Refusal.{Refusal}
 use Rattle.circuit.specs.declared.Refusal.TheVariants.{NotThere, NothingOpen, Full, Target as BadTarget}
 use Rattle.circuit.specs.declared.Circuit.{Circuit}
 use Rattle.circuit.specs.declared.Words.{Words}
 use Rattle.circuit.specs.Gate.{no_words}
 use Rattle.circuit.specs.Lines.{Gate, gate, lines, depth_step, and_depth_step, words_step, input_words, reached, padded}
-use Rattle.circuit.specs.Structs.{gate_of, put_gate}
-use Rattle.circuit.specs.Rules.{unless, shaped, gate_answer, out_answer}
+use Rattle.circuit.specs.Structs.{gate_of, put_gate, held}
+use Rattle.circuit.specs.Rules.{Answer, done, and_then, unless, shaped, gate_answer, out_answer}
 use Rattle.circuit.specs.Sizes.{most_gates, most_lines, most_values}
-use Rattle.targets.specs.Target.{value_fits}
+use Rattle.stored.specs.Stored.{listing_in}
+use Rattle.targets.specs.Target.{value_fits, Brought}
 use Rattle.targets.specs.Wanted.{wanted_in}
 use Rattle.bench.specs.declared.Bench.{Bench}
-use Rattle.bench.specs.declared.Edit.{Edit}
 use Rattle.bench.specs.declared.Edited.{Edited}
 use Rattle.bench.specs.Held.{circuit_of, recircuited, holding, unexamined}
-use Rattle.bench.specs.Calls.{no_rework, reworking}
+use Rattle.bench.specs.Calls.{Edit, reworking, open_answer}
 use Rattle.bench.specs.State.{Limits}
 
 -- ---- lines
@@ -66,7 +65,7 @@ pub record HeldBut (b : Bench) (k : ℕ) (gates : ℕ → Gate) : Type 0 where
 -- and the lines reached from gate k are listed, and no others
 pub record Reexamined (b : Bench) (k : ℕ) (r : Bench) (e : Edit) : Type 0 where
   pub fresh : AllBelow b.n b.g (gate_on b) → (old : ℕ → Gate) → Agree k old (gate_on b) → HeldBut b k old → r ≡ examined b
-  pub listed : e ≡ reworking (reached k b.n (gate_on b) b.g)
+  pub listed : e ≡ Ok (reworking (reached k b.n (gate_on b) b.g))
 
 -- ---- what a call looks at before it changes anything: 13, 12, and then the edit's own
 
@@ -74,38 +73,42 @@ pub record Reexamined (b : Bench) (k : ℕ) (r : Bench) (e : Edit) : Type 0 wher
 abbrev pub standing : Bool → ℕ → ℕ → ℕ → Bool
 standing opened n m g = opened && shaped n m g
 
+-- something is open on a bench
+abbrev pub open_on : Bench → Bool
+open_on b = standing b.is_open b.n b.m b.g
+
 -- what replacing a gate is refused for, from the numbers on the bench
-unfoldable pub gate_look : Bool → Bool → ℕ → ℕ → ℕ → ℕ → ℕ → ℕ → ℕ → Answer
-gate_look opened only n m g k kind a b = unless (standing opened n m g) NothingOpen (unless (ltb k g) NotThere (gate_answer only (n + k) (gate kind a b)))
+unfoldable pub gate_look : Bench → ℕ → ℕ → ℕ → ℕ → Answer
+gate_look z k kind a b = unless (open_on z) NothingOpen (unless (ltb k z.g) NotThere (gate_answer z.is_matrix (z.n + k) (gate kind a b)))
 
 -- what appending a gate is refused for
-unfoldable pub append_look : Bool → Bool → ℕ → ℕ → ℕ → ℕ → ℕ → ℕ → Answer
-append_look opened only n m g kind a b = unless (standing opened n m g) NothingOpen (unless (ltb g most_gates) Full (gate_answer only (n + g) (gate kind a b)))
+unfoldable pub append_look : Bench → ℕ → ℕ → ℕ → Answer
+append_look z kind a b = unless (open_on z) NothingOpen (unless (ltb z.g most_gates) Full (gate_answer z.is_matrix (z.n + z.g) (gate kind a b)))
 
 -- what pointing an output is refused for
-unfoldable pub output_look : Bool → ℕ → ℕ → ℕ → ℕ → ℕ → Answer
-output_look opened n m g j line = unless (standing opened n m g) NothingOpen (unless (ltb j m) NotThere (out_answer (n + g) line))
+unfoldable pub output_look : Bench → ℕ → ℕ → Answer
+output_look z j line = unless (open_on z) NothingOpen (unless (ltb j z.m) NotThere (out_answer (z.n + z.g) line))
 
 -- what changing an entry is refused for
-unfoldable pub entry_look : Bool → Bool → ℕ → ℕ → ℕ → ℕ → ℕ → ℕ → Answer
-entry_look opened only n m g i value constant =
-    unless (standing opened n m g) NothingOpen
-    (unless (ltb i (cond only m (2 ^ n))) NotThere (unless (value_fits only n m value constant) BadTarget Done))
+unfoldable pub entry_look : Bench → ℕ → ℕ → ℕ → Answer
+entry_look z i value constant =
+    unless (open_on z) NothingOpen
+    (unless (ltb i (cond z.is_matrix z.m (2 ^ z.n))) NotThere (unless (value_fits z.is_matrix z.n z.m value constant) BadTarget done))
 
 -- the target's bytes with entry i changed: a row's constant stands m bytes behind its mask
 unfoldable pub entered : Bool → ℕ → List ℕ → ℕ → ℕ → ℕ → List ℕ
 entered only m bytes i value constant = let l = set bytes i value in cond only (set l (m + i) constant) l
 
--- a bench beside an answer that reworks no line
-abbrev pub unreworked : Bench → Answer → Edited
-unreworked b a = record { bench = b; edit = no_rework a }
-
 -- what setting gate k gives, by what was looked at first: a refusal leaves the bench
-abbrev pub Reworked : Answer → Bench → ℕ → ℕ → ℕ → ℕ → Edited → Type 0
-Reworked Done b k kind x y r = Reexamined (regated b k kind x y) k r.bench r.edit
-Reworked (Refused w) b k kind x y r = r ≡ unreworked b (Refused w)
+abbrev pub GateSet : Answer → Bench → ℕ → ℕ → ℕ → ℕ → Edited → Type 0
+GateSet (Ok _) b k kind x y r = Reexamined (regated b k kind x y) k r.bench r.edit
+GateSet (Err w) b k kind x y r = r ≡ record { bench = b; edit = Err w }
 
 -- ---- opening
+
+-- the circuit that an open brings, as the struct that holds it, or why the open is refused
+unfoldable pub accepted_of : List ℕ → Brought → Result Circuit Refusal
+accepted_of bytes t = and_then (open_answer bytes t) (Ok (held (listing_in bytes)))
 
 -- the bench with this circuit, target and limits, every line examined
 unfoldable pub placed_of : Circuit → Bool → List ℕ → Limits → Bench

@@ -1,6 +1,6 @@
 -- A state of the bench, and what a first-time examination of it reports.
+use Rattle.circuit.specs.Rules.{done}
 use Rattle.std.specs.Prelude.{◌≡◌, Bool, true, cond, not, ℕ, zero, suc, ◌^◌, ◌<◌, ltb, eqb, length}
-use Rattle.circuit.specs.declared.Answer.TheVariants.{Done}
 use Rattle.circuit.specs.Lines.{Listing, output_on, depth_of, and_depth_of, counts_of}
 use Rattle.circuit.specs.Rules.{listing_answer}
 use Rattle.circuit.specs.Sizes.{held16}
@@ -95,7 +95,7 @@ pub record LimitsFit (l : Limits) : Type 0 where
 
 -- a state that keeps every rule: the circuit and the target are ones that no open refuses, and the limits can be held
 pub record Sound (s : State) : Type 0 where
-  pub circuit : listing_answer (is_matrix s.target) s.circuit ≡ Done
+  pub circuit : listing_answer (is_matrix s.target) s.circuit ≡ done
   pub target : target_fits s.circuit.inputs (length s.circuit.outs) s.target ≡ true
   pub limits : LimitsFit s.limits
 

@@ -1,53 +1,39 @@
 // Appending a gate: it is looked at first, as every edit is, and its own line is examined.
 ghost use Rattle.std.specs.Prelude.{◌≡◌, ◌<◌, ◌≤◌};
-ghost use Rattle.circuit.specs.declared.Answer.TheVariants.{Done};
+ghost use Rattle.circuit.specs.Rules.{done};
 ghost use Rattle.circuit.specs.Sizes.{most_inputs, most_gates};
 ghost use Rattle.bench.specs.Calls.{AppendPromise};
-ghost use Rattle.bench.specs.Parts.{append_look, Reworked};
+ghost use Rattle.bench.specs.Parts.{append_look, GateSet};
 
-use crate::edits::is_standing;
 use crate::examine::and_deeper;
-use crate::{Bench, Edit, Edited};
+use crate::{Bench, Edited, Reworked};
 use circuit::depth::deeper;
 use circuit::rules::check_gate;
-use circuit::{Answer, GATES, LINES, Refusal, gate, line_index, low_byte, low16};
+use circuit::{GATES, LINES, Refusal, gate, line_index, low_byte, low16};
 
 // What appending a gate is refused for.
-fn look_at_append(
-    opened: bool,
-    only: bool,
-    n: usize,
-    m: usize,
-    g: usize,
-    kind: usize,
-    a: usize,
-    b: usize,
-) -> Answer
-    ensures { result ≡ append_look opened only n m g kind a b }
+fn look_at_append(bench: &Bench, kind: usize, a: usize, b: usize) -> Result<(), Refusal>
+    ensures { result ≡ append_look bench.now kind a b }
 {
-    if is_standing(opened, n, m, g) {
-        if g < GATES {
-            check_gate(only, n + g, kind, a, b)
-        } else {
-            Answer::Refused(Refusal::Full)
-        }
-    } else {
-        Answer::Refused(Refusal::NothingOpen)
+    if !bench.is_standing() {
+        return Err(Refusal::NothingOpen);
     }
+    if GATES <= bench.g {
+        return Err(Refusal::Full);
+    }
+    check_gate(bench.is_matrix, bench.n + bench.g, kind, a, b)
 }
 
 // Adds a gate after the last one where it was looked at and nothing is refused. Its own line is examined and listed, and no
 // other: no gate reads it yet. This is what replacing a gate does at the first one that is not there, without its readers.
-fn extend(b: Bench, look: Answer, kind: u8, first: u16, second: u16) -> Edited
-    requires { look ≡ Done → (b.n ≤ most_inputs) × (b.g < most_gates) }
-    ensures { Reworked look b b.g kind first second result }
+fn extend(b: Bench, look: Result<(), Refusal>, kind: u8, first: u16, second: u16) -> Edited
+    requires { look ≡ done → (b.n ≤ most_inputs) × (b.g < most_gates) }
+    ensures { GateSet look b b.g kind first second result }
 {
     let mut c = b;
-    let mut lines = [0u16; LINES];
-    let mut count: usize = 0;
-    match look {
-        Answer::Refused(_) => {}
-        Answer::Done => {
+    let edit = match look {
+        Err(why) => Err(why),
+        Ok(()) => {
             let k = c.g;
             c.kinds[k] = kind;
             c.left[k] = first;
@@ -61,14 +47,10 @@ fn extend(b: Bench, look: Answer, kind: u8, first: u16, second: u16) -> Edited
             c.depths[at] = deeper(c.depths[x], c.depths[y]);
             c.and_depths[at] = and_deeper(kind, c.and_depths[x], c.and_depths[y]);
             c.values[at] = words;
+            let mut lines = [0u16; LINES];
             lines[0] = low16(at);
-            count = 1;
+            Ok(Reworked { lines, count: 1 })
         }
-    }
-    let edit = Edit {
-        answer: look,
-        lines,
-        count,
     };
     Edited { bench: c, edit }
 }
@@ -77,15 +59,6 @@ fn extend(b: Bench, look: Answer, kind: u8, first: u16, second: u16) -> Edited
 pub fn append_gate(bench: Bench, kind: usize, a: usize, b: usize) -> Edited
     ensures { AppendPromise bench kind a b result.edit result.bench }
 {
-    let look = look_at_append(
-        bench.is_open,
-        bench.is_matrix,
-        bench.n,
-        bench.m,
-        bench.g,
-        kind,
-        a,
-        b,
-    );
+    let look = look_at_append(&bench, kind, a, b);
     extend(bench, look, low_byte(kind), low16(a), low16(b))
 }

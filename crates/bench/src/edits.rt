@@ -1,115 +1,66 @@
 // The edits: each looks first, and changes the bench only where nothing is left to refuse.
 ghost use Rattle.std.specs.Prelude.{◌≡◌, true, cond, ◌^◌, ◌≤◌, ◌<◌};
-ghost use Rattle.circuit.specs.declared.Answer.TheVariants.{Refused};
 ghost use Rattle.circuit.specs.Sizes.{most_inputs, most_outputs, most_values};
 ghost use Rattle.bench.specs.Calls.{GatePromise, OutputPromise, EntryPromise, LimitsPromise};
 ghost use Rattle.bench.specs.State.{limits};
-ghost use Rattle.bench.specs.Parts.{standing, gate_look, output_look, entry_look, entered, unreworked};
+ghost use Rattle.bench.specs.Parts.{gate_look, output_look, entry_look, entered};
 
 use crate::examine::rework;
-use crate::{Bench, Edit, Edited};
-use circuit::rules::{check_gate, check_output, is_shape};
-use circuit::{Answer, LINES, Refusal, VALUES, from_byte, low_byte, low16};
+use crate::{Bench, Edited, NO_LINES};
+use circuit::rules::{check_gate, check_output};
+use circuit::{Refusal, VALUES, low_byte, low16};
 use targets::rules::value_fits;
 use targets::wanted::wanted_words;
 
-// Something is open; numbers out of range count as nothing, so that no call leaves its bounds on any bench.
-pub fn is_standing(opened: bool, n: usize, m: usize, g: usize) -> bool
-    ensures { result ≡ standing opened n m g }
-{
-    if opened { is_shape(n, m, g) } else { false }
-}
-
-// The bench with an answer that reworks no line.
-fn without_rework(bench: Bench, answer: Answer) -> Edited
-    ensures { result ≡ unreworked bench answer }
-{
-    let lines = [0u16; LINES];
-    let edit = Edit {
-        answer,
-        lines,
-        count: 0,
-    };
-    Edited { bench, edit }
-}
-
-// A refused edit: the bench stays as it was.
-pub(crate) fn refused(bench: Bench, why: Refusal) -> Edited
-    ensures { result ≡ unreworked bench (Refused why) }
-{
-    without_rework(bench, Answer::Refused(why))
-}
-
 // What replacing gate k is refused for.
-fn look_at_gate(
-    opened: bool,
-    only: bool,
-    n: usize,
-    m: usize,
-    g: usize,
-    k: usize,
-    kind: usize,
-    a: usize,
-    b: usize,
-) -> Answer
-    ensures { result ≡ gate_look opened only n m g k kind a b }
+fn look_at_gate(bench: &Bench, k: usize, kind: usize, a: usize, b: usize) -> Result<(), Refusal>
+    ensures { result ≡ gate_look bench.now k kind a b }
 {
-    if is_standing(opened, n, m, g) {
-        if k < g {
-            check_gate(only, n + k, kind, a, b)
-        } else {
-            Answer::Refused(Refusal::NotThere)
-        }
-    } else {
-        Answer::Refused(Refusal::NothingOpen)
+    if !bench.is_standing() {
+        return Err(Refusal::NothingOpen);
     }
+    if bench.g <= k {
+        return Err(Refusal::NotThere);
+    }
+    check_gate(bench.is_matrix, bench.n + k, kind, a, b)
 }
 
 // Replaces gate k. The line of gate k and every line that reads it, directly or through others, is examined again.
 pub fn replace_gate(bench: Bench, k: usize, kind: usize, a: usize, b: usize) -> Edited
     ensures { GatePromise bench k kind a b result.edit result.bench }
 {
-    let look = look_at_gate(
-        bench.is_open,
-        bench.is_matrix,
-        bench.n,
-        bench.m,
-        bench.g,
-        k,
-        kind,
-        a,
-        b,
-    );
+    let look = look_at_gate(&bench, k, kind, a, b);
     rework(bench, look, k, low_byte(kind), low16(a), low16(b))
 }
 
 // What pointing output j is refused for.
-fn look_at_output(opened: bool, n: usize, m: usize, g: usize, j: usize, line: usize) -> Answer
-    ensures { result ≡ output_look opened n m g j line }
+fn look_at_output(bench: &Bench, j: usize, line: usize) -> Result<(), Refusal>
+    ensures { result ≡ output_look bench.now j line }
 {
-    if is_standing(opened, n, m, g) {
-        if j < m {
-            check_output(n + g, line)
-        } else {
-            Answer::Refused(Refusal::NotThere)
-        }
-    } else {
-        Answer::Refused(Refusal::NothingOpen)
+    if !bench.is_standing() {
+        return Err(Refusal::NothingOpen);
     }
+    if bench.m <= j {
+        return Err(Refusal::NotThere);
+    }
+    check_output(bench.n + bench.g, line)
 }
 
 // Points output j at a line.
 pub fn point_output(bench: Bench, j: usize, line: usize) -> Edited
     ensures { OutputPromise bench j line result.edit result.bench }
 {
-    let look = look_at_output(bench.is_open, bench.n, bench.m, bench.g, j, line);
-    match look {
-        Answer::Refused(why) => refused(bench, why),
-        Answer::Done => {
-            let mut c = bench;
-            c.outputs[j] = low16(line);
-            without_rework(c, Answer::Done)
-        }
+    if let Err(why) = look_at_output(&bench, j, line) {
+        return Edited {
+            bench,
+            edit: Err(why),
+        };
+    }
+    let mut c = bench;
+    c.outputs[j] = low16(line);
+    Edited {
+        bench: c,
+        edit: Ok(NO_LINES),
     }
 }
 
@@ -122,31 +73,19 @@ fn target_length(only: bool, n: usize, m: usize) -> usize
 }
 
 // What changing entry i is refused for.
-fn look_at_entry(
-    opened: bool,
-    only: bool,
-    n: usize,
-    m: usize,
-    g: usize,
-    i: usize,
-    value: usize,
-    constant: usize,
-) -> Answer
-    ensures { result ≡ entry_look opened only n m g i value constant }
+fn look_at_entry(bench: &Bench, i: usize, value: usize, constant: usize) -> Result<(), Refusal>
+    ensures { result ≡ entry_look bench.now i value constant }
 {
-    if is_standing(opened, n, m, g) {
-        if i < target_length(only, n, m) {
-            if value_fits(only, n, m, value, constant) {
-                Answer::Done
-            } else {
-                Answer::Refused(Refusal::Target)
-            }
-        } else {
-            Answer::Refused(Refusal::NotThere)
-        }
-    } else {
-        Answer::Refused(Refusal::NothingOpen)
+    if !bench.is_standing() {
+        return Err(Refusal::NothingOpen);
     }
+    if target_length(bench.is_matrix, bench.n, bench.m) <= i {
+        return Err(Refusal::NotThere);
+    }
+    if !value_fits(bench.is_matrix, bench.n, bench.m, value, constant) {
+        return Err(Refusal::Target);
+    }
+    Ok(())
 }
 
 // The target's bytes with entry i changed: a row's constant stands behind all masks, m bytes past its mask.
@@ -173,33 +112,27 @@ fn enter(
 pub fn change_entry(bench: Bench, i: usize, value: usize, constant: usize) -> Edited
     ensures { EntryPromise bench i value constant result.edit result.bench }
 {
-    let look = look_at_entry(
-        bench.is_open,
-        bench.is_matrix,
-        bench.n,
-        bench.m,
-        bench.g,
+    if let Err(why) = look_at_entry(&bench, i, value, constant) {
+        return Edited {
+            bench,
+            edit: Err(why),
+        };
+    }
+    let mut c = bench;
+    let bytes = c.target;
+    c.target = enter(
+        c.is_matrix,
+        c.m,
+        bytes,
         i,
-        value,
-        constant,
+        low_byte(value),
+        low_byte(constant),
     );
-    match look {
-        Answer::Refused(why) => refused(bench, why),
-        Answer::Done => {
-            let mut c = bench;
-            let bytes = c.target;
-            c.target = enter(
-                c.is_matrix,
-                c.m,
-                bytes,
-                i,
-                low_byte(value),
-                low_byte(constant),
-            );
-            let wanted = wanted_words(c.is_matrix, &c.target, c.m);
-            c.wanted = wanted;
-            without_rework(c, Answer::Done)
-        }
+    let wanted = wanted_words(c.is_matrix, &c.target, c.m);
+    c.wanted = wanted;
+    Edited {
+        bench: c,
+        edit: Ok(NO_LINES),
     }
 }
 
@@ -207,13 +140,21 @@ pub fn change_entry(bench: Bench, i: usize, value: usize, constant: usize) -> Ed
 pub fn set_limits(bench: Bench, gates: u8, depth: u8, ands: u8) -> Edited
     ensures { LimitsPromise bench (limits gates depth ands) result.edit result.bench }
 {
-    if is_standing(bench.is_open, bench.n, bench.m, bench.g) {
-        let mut c = bench;
-        c.max_gates = from_byte(gates);
-        c.max_depth = from_byte(depth);
-        c.max_and_depth = from_byte(ands);
-        without_rework(c, Answer::Done)
+    if bench.is_standing() {
+        let next = Bench {
+            max_gates: u16::from(gates),
+            max_depth: u16::from(depth),
+            max_and_depth: u16::from(ands),
+            ..bench
+        };
+        Edited {
+            bench: next,
+            edit: Ok(NO_LINES),
+        }
     } else {
-        refused(bench, Refusal::NothingOpen)
+        Edited {
+            bench,
+            edit: Err(Refusal::NothingOpen),
+        }
     }
 }

@@ -1,26 +1,21 @@
 // The examination of lines: all of them afresh, or only those that read a replaced gate.
 ghost use Rattle.std.specs.Prelude.{◌≡◌, ◌||◌, max, ◌+◌, ◌<◌, ◌≤◌, take};
-ghost use Rattle.circuit.specs.declared.Answer.TheVariants.{Done};
+ghost use Rattle.circuit.specs.Rules.{done};
 ghost use Rattle.circuit.specs.Sizes.{most_inputs, most_gates, most_lines};
 ghost use Rattle.circuit.specs.Gate.{kind_of, nonlinear, no_words};
 ghost use Rattle.circuit.specs.Lines.{input_words, padded};
-ghost use Rattle.bench.specs.Parts.{examined, Reworked};
+ghost use Rattle.bench.specs.Parts.{examined, GateSet};
 
-use crate::{Bench, Edit, Edited};
+use crate::{Bench, Edited, Reworked};
 use circuit::depth::deeper;
-use circuit::{Answer, LINES, NO_WORDS, Words, gate, line_index, low16};
+use circuit::{LINES, NO_WORDS, Refusal, Words, gate, line_index, low16};
 use targets::wanted::input_words;
 
 // The greater of two AND depths, and one more for a nonlinear gate.
 pub(crate) fn and_deeper(kind: u8, a: u8, b: u8) -> u8
     ensures { max a b < 255 → result ≡ max a b + nonlinear (kind_of kind) }
 {
-    let top = if a < b { b } else { a };
-    if top < 255 {
-        top + gate::and_weight(kind)
-    } else {
-        top
-    }
+    a.max(b).saturating_add(gate::and_weight(kind))
 }
 
 // The values of n inputs, on their lines.
@@ -29,15 +24,13 @@ fn inputs_only(n: usize) -> [Words; LINES]
     ensures { result ≡ padded most_lines no_words (take n input_words) }
 {
     let mut values = [NO_WORDS; LINES];
-    let mut i: usize = 0;
-    while i < n {
+    for i in 0..n {
         values[i] = input_words(i);
-        i += 1;
     }
     values
 }
 
-// The bench with every line examined afresh.
+// The bench with every line examined afresh. What the loop only reads is copied once, as in `rework`.
 pub(crate) fn examine(b: Bench) -> Bench
     requires { (b.n ≤ most_inputs) × (b.g ≤ most_gates) }
     ensures { result ≡ examined b }
@@ -51,8 +44,7 @@ pub(crate) fn examine(b: Bench) -> Bench
     c.depths = [0u8; LINES];
     c.and_depths = [0u8; LINES];
     c.values = inputs_only(n);
-    let mut j: usize = 0;
-    while j < g {
+    for j in 0..g {
         let kind = kinds[j];
         let x = line_index(left[j]);
         let y = line_index(gate::second_read(kind, left[j], right[j]));
@@ -60,7 +52,6 @@ pub(crate) fn examine(b: Bench) -> Bench
         c.depths[at] = deeper(c.depths[x], c.depths[y]);
         c.and_depths[at] = and_deeper(kind, c.and_depths[x], c.and_depths[y]);
         c.values[at] = gate::eval_gate(kind, c.values[x], c.values[y]);
-        j += 1;
     }
     c
 }
@@ -69,29 +60,30 @@ pub(crate) fn examine(b: Bench) -> Bench
 fn is_reached(own: bool, a: bool, b: bool) -> bool
     ensures { result ≡ own || (a || b) }
 {
-    if own {
-        true
-    } else if a {
-        true
-    } else {
-        b
-    }
+    own || (a || b)
 }
 
 // Replaces gate k where it was looked at and nothing is refused. The line of gate k and each line that reads it, directly
 // or through others, is examined again and listed, whether or not its values change. One bench is changed, or left, and
 // given back at one place: two would cost a copy more. Arrays that the loop only reads are copied once. It has one caller:
 // with two it would be compiled as a call of its own, and the bench copied in and out of it.
-pub(crate) fn rework(b: Bench, look: Answer, k: usize, kind: u8, first: u16, second: u16) -> Edited
-    requires { look ≡ Done → (b.n ≤ most_inputs) × (b.g ≤ most_gates) × (k < b.g) }
-    ensures { Reworked look b k kind first second result }
+pub(crate) fn rework(
+    b: Bench,
+    look: Result<(), Refusal>,
+    k: usize,
+    kind: u8,
+    first: u16,
+    second: u16,
+) -> Edited
+    requires { look ≡ done → (b.n ≤ most_inputs) × (b.g ≤ most_gates) × (k < b.g) }
+    ensures { GateSet look b k kind first second result }
 {
     let mut c = b;
-    let mut lines = [0u16; LINES];
-    let mut count: usize = 0;
-    match look {
-        Answer::Refused(_) => {}
-        Answer::Done => {
+    let edit = match look {
+        Err(why) => Err(why),
+        Ok(()) => {
+            let mut lines = [0u16; LINES];
+            let mut count: usize = 0;
             c.kinds[k] = kind;
             c.left[k] = first;
             c.right[k] = second;
@@ -102,8 +94,7 @@ pub(crate) fn rework(b: Bench, look: Answer, k: usize, kind: u8, first: u16, sec
             let right = c.right;
             let mut marks = [false; LINES];
             marks[n + k] = true;
-            let mut j = k;
-            while j < g {
+            for j in k..g {
                 let kind = kinds[j];
                 let x = line_index(left[j]);
                 let y = line_index(gate::second_read(kind, left[j], right[j]));
@@ -117,14 +108,9 @@ pub(crate) fn rework(b: Bench, look: Answer, k: usize, kind: u8, first: u16, sec
                     lines[count] = low16(at);
                     count += 1;
                 }
-                j += 1;
             }
+            Ok(Reworked { lines, count })
         }
-    }
-    let edit = Edit {
-        answer: look,
-        lines,
-        count,
     };
     Edited { bench: c, edit }
 }

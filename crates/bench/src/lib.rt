@@ -1,7 +1,11 @@
 // The bench by value: one circuit, one target and three limits, with what is held for each line.
 #![tactic(auto)]
 
-use circuit::{Answer, GATES, LINES, OUTPUTS, Refusal, Tally, VALUES, Words};
+ghost use Rattle.std.specs.Prelude.{◌≡◌};
+ghost use Rattle.bench.specs.Parts.{open_on};
+
+use circuit::rules::is_shape;
+use circuit::{GATES, LINES, OUTPUTS, Refusal, Tally, VALUES, Words};
 
 pub mod opening; // opening.rt: an empty bench, and opening a circuit with its target and limits
 pub mod edits; // edits.rt: replacing a gate, pointing an output, changing an entry, setting limits
@@ -34,6 +38,15 @@ pub struct Bench {
     pub values: [Words; LINES],
 }
 
+impl Bench {
+    // Something is open; numbers out of range count as nothing, so that no call leaves its bounds on any bench.
+    pub fn is_standing(&self) -> bool
+        ensures { result ≡ open_on self.now }
+    {
+        self.is_open && is_shape(self.n, self.m, self.g)
+    }
+}
+
 // Where a circuit is wrong: the smallest input value with a differing output, and the smallest such output there.
 #[derive(Clone, Copy)]
 pub struct Place {
@@ -60,19 +73,21 @@ pub struct Report {
     pub verdict: Verdict,
 }
 
+// The lines that an edit reworked, in ascending order, and how many; zeros past the last.
 #[derive(Clone, Copy)]
-pub enum Reported {
-    Given(Report),
-    NotGiven(Refusal),
-}
-
-// What an edit answers: whether it was accepted, the lines that it reworked in ascending order, and how many.
-#[derive(Clone, Copy)]
-pub struct Edit {
-    pub answer: Answer,
+pub struct Reworked {
     pub lines: [u16; LINES],
     pub count: usize,
 }
+
+// No line.
+pub const NO_LINES: Reworked = Reworked {
+    lines: [0; LINES],
+    count: 0,
+};
+
+// What an edit answers.
+pub type Edit = Result<Reworked, Refusal>;
 
 #[derive(Clone, Copy)]
 pub struct Edited {
@@ -83,5 +98,5 @@ pub struct Edited {
 #[derive(Clone, Copy)]
 pub struct Opened {
     pub bench: Bench,
-    pub answer: Answer,
+    pub answer: Result<(), Refusal>,
 }

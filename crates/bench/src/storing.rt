@@ -4,14 +4,14 @@ ghost use Rattle.bench.specs.Calls.{StorePromise};
 ghost use Rattle.bench.specs.Held.{circuit_of};
 
 use crate::Bench;
-use crate::edits::is_standing;
 use circuit::{Circuit, Refusal};
-use stored::Writing;
+use stored::writer::write;
 
 // The circuit that stands on the bench.
 pub fn circuit_of(b: Bench) -> Circuit
     ensures { result ≡ circuit_of b }
 {
+    // Each array has a name first, here and elsewhere: put from one struct straight into another it has no proof yet.
     let kinds = b.kinds;
     let left = b.left;
     let right = b.right;
@@ -28,12 +28,11 @@ pub fn circuit_of(b: Bench) -> Circuit
 }
 
 // The stored bytes first in the room, and how many; the rest of the room stays.
-pub fn store(bench: Bench, room: &mut [u8]) -> Writing
+pub fn store(bench: Bench, room: &mut [u8]) -> Result<usize, Refusal>
     ensures { StorePromise bench room.old result room.new }
 {
-    if is_standing(bench.is_open, bench.n, bench.m, bench.g) {
-        stored::writer::write(circuit_of(bench), room)
-    } else {
-        Writing::NotWritten(Refusal::NothingOpen)
+    if !bench.is_standing() {
+        return Err(Refusal::NothingOpen);
     }
+    write(circuit_of(bench), room)
 }

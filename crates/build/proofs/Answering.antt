@@ -1,4 +1,5 @@
 -- What is answered on each way through the program; and that an input longer than the program reads is refused by its length. Assumes nothing.
+use Rattle.std.specs.Prelude.{Result, Ok, Err}
 use mathlib.Core.Path.{◌≡◌, refl, ap, ◌∙◌, sym}
 use mathlib.Core.Bool.{Bool, true, false, cond, ◌&&◌}
 use mathlib.Core.List.{List}
@@ -7,17 +8,17 @@ use native.Mathlib.Omega.{arith}
 use borrow.Author.Tests.{le-leb, lt-leb, eq-eqb, ne_eqb}
 use lib.Dec.{eqb}
 use lib.ListN.{length, get_or, drop}
-use Rattle.circuit.specs.declared.Answer.{Answer}
-use Rattle.circuit.specs.declared.Answer.TheVariants.{Done, Refused}
+use Rattle.circuit.specs.declared.Circuit.{Circuit}
+use Rattle.circuit.specs.declared.Refusal.{Refusal}
 use Rattle.circuit.specs.declared.Refusal.TheVariants.{Length}
-use Rattle.circuit.specs.Structs.{listed}
+use Rattle.circuit.specs.Rules.{Answer, and_then, shaped}
+use Rattle.circuit.specs.Structs.{held}
 use Rattle.circuit.proofs.Listed.{listed-held}
 use Rattle.circuit.proofs.RuleLaws.{circuit_fits}
-use Rattle.builder.specs.declared.Planned.{Planned}
-use Rattle.builder.specs.Call.{built, refusal, planned, plan_of}
+use Rattle.builder.specs.Call.{built, refusal, plan_of}
 use Rattle.builder.proofs.Theorems.{sound_circuit}
 use Rattle.listing.specs.Printed.{listing_text, refused_text}
-use Rattle.build.specs.Answered.{whole, plan_text, answer_text, Fits}
+use Rattle.build.specs.Answered.{whole, plan_text, planned_text, answer_text, Fits}
 
 module _ (s : List ℕ) where
   decided : (t : Bool) → whole s ≡ t → cond t (plan_text (refusal (get_or s 0 0) (drop 3 s) (get_or s 2 0)) (built (get_or s 0 0) (drop 3 s) (get_or s 2 0))) (refused_text Length) ≡ answer_text s
@@ -43,18 +44,19 @@ module _ (s : List ℕ) where
   too_long b h = other_length (get_or s 1 0) refl (omega arith) (λ e. omega arith)
 
 -- the text of a plan is that of the circuit that is built, or of the refusal
-pub plan-text : (n : ℕ) (ts : List ℕ) (D : ℕ) (p : Planned) → p ≡ plan_of n ts D
-    → plan_text p.answer (listed p.circuit) ≡ plan_text (refusal n ts D) (built n ts D)
+pub plan-text : (n : ℕ) (ts : List ℕ) (D : ℕ) (p : Result Circuit Refusal) → p ≡ plan_of n ts D → planned_text p ≡ plan_text (refusal n ts D) (built n ts D)
 unfolding plan_of
-plan-text n ts D p e = ap (λ (q : Planned). plan_text q.answer (listed q.circuit)) e ∙ by (refusal n ts D) refl where
-  by : (a : Answer) → refusal n ts D ≡ a → plan_text (planned a (built n ts D)).answer (listed (planned a (built n ts D)).circuit) ≡ plan_text a (built n ts D)
-  by Done h = ap listing_text (listed-held true (built n ts D) (sound_circuit n ts D h))
-  by (Refused w) h = refl
+plan-text n ts D p e = ap planned_text e ∙ by (refusal n ts D) refl where
+  by : (a : Answer) → refusal n ts D ≡ a → planned_text (and_then a (Ok (held (built n ts D)))) ≡ plan_text a (built n ts D)
+  by (Ok u) h = ap listing_text (listed-held true (built n ts D) (sound_circuit n ts D h))
+  by (Err w) h = refl
 
 -- a plan that is accepted is in range
-pub plan_fits : (n : ℕ) (ts : List ℕ) (D : ℕ) (p : Planned) → p ≡ plan_of n ts D → Fits p
+pub plan_fits : (n : ℕ) (ts : List ℕ) (D : ℕ) (p : Result Circuit Refusal) → p ≡ plan_of n ts D → Fits p
 unfolding plan_of
-plan_fits n ts D p e = rw e (by (refusal n ts D) refl) where
-  by : (a : Answer) → refusal n ts D ≡ a → Fits (planned a (built n ts D))
-  by Done h = λ _. (circuit_fits true (built n ts D) (sound_circuit n ts D h)).shaped-true
-  by (Refused w) h = λ d. let z : ◌≡◌ {A = ℕ} 0 1 = cc in absurd (omega arith)
+plan_fits n ts D p e c q = by (refusal n ts D) refl (sym e ∙ q) where
+  by : (a : Answer) → refusal n ts D ≡ a → and_then a (Ok (held (built n ts D))) ≡ Ok c → shaped c.n c.m c.g ≡ true
+  by (Ok u) h q =
+      let k : held (built n ts D) ≡ c = cc in
+      ap (λ (x : Circuit). shaped x.n x.m x.g) (sym k) ∙ (circuit_fits true (built n ts D) (sound_circuit n ts D h)).shaped-true
+  by (Err w) h q = absurd (cc)

@@ -7,10 +7,9 @@ ghost use Rattle.circuit.specs.Rules.{shaped};
 ghost use Rattle.circuit.specs.Structs.{listed};
 ghost use Rattle.text.specs.Putting.{Put};
 ghost use Rattle.listing.specs.Printed.{listing_text};
-ghost use Rattle.build.specs.Answered.{plan_text, answer_text, Fits};
+ghost use Rattle.build.specs.Answered.{planned_text, answer_text, Fits};
 
-use builder::Planned;
-use circuit::{Answer, Circuit, Refusal, wide};
+use circuit::{Circuit, Refusal};
 use intake::read_full;
 use std::io::Write;
 
@@ -33,18 +32,14 @@ fn put_circuit(out: &mut [u8; ROOM], c: Circuit) -> usize
 }
 
 // The circuit, or the refusal.
-fn put_planned(out: &mut [u8; ROOM], plan: Planned) -> usize
+fn put_planned(out: &mut [u8; ROOM], plan: Result<Circuit, Refusal>) -> usize
     requires { Fits plan }
-    ensures put { Put out.old 0 (plan_text plan.answer (listed plan.circuit)) out.new result }
+    ensures put { Put out.old 0 (planned_text plan) out.new result }
     ensures prefix_len { IsPrefixLen result out.new }
 {
-    let answer = plan.answer;
-    match answer {
-        Answer::Done => {
-            let circuit = plan.circuit;
-            put_circuit(out, circuit)
-        }
-        Answer::Refused(why) => listing::put_refused(out, why),
+    match plan {
+        Ok(circuit) => put_circuit(out, circuit),
+        Err(why) => listing::put_refused(out, why),
     }
 }
 
@@ -53,18 +48,12 @@ fn answer(input: &[u8], out: &mut [u8; ROOM]) -> usize
     ensures put { Put out.old 0 (answer_text input.now) out.new result }
     ensures prefix_len { IsPrefixLen result out.new }
 {
-    if input.len() < 3 {
+    if input.len() < 3 || input.len() != 3 + usize::from(input[1]) {
         return listing::put_refused(out, Refusal::Length);
     }
-    let m = wide(input[1]);
-    if input.len() == 3 + m {
-        let n = wide(input[0]);
-        let depth = wide(input[2]);
-        let plan = builder::plan(n, &input[3..], depth);
-        put_planned(out, plan)
-    } else {
-        listing::put_refused(out, Refusal::Length)
-    }
+    let n = usize::from(input[0]);
+    let depth = usize::from(input[2]);
+    put_planned(out, builder::plan(n, &input[3..], depth))
 }
 
 fn main(rt: HostRuntime) {

@@ -1,4 +1,5 @@
 -- The call of 01 is the case of arrivals 0 and one limit for all rows: its circuit, its refusals, its plan, and the programs that compute a matrix.
+use Rattle.std.specs.Prelude.{Ok, Err}
 use mathlib.Core.Bool.{Bool, true, false, not, ◌||◌, or-false, or_self}
 use mathlib.Core.List.{List, [], ◌∷◌, map}
 use mathlib.Core.Path.{◌≡◌, refl, sym, ap, ap₂, ◌∙◌, subst}
@@ -9,18 +10,16 @@ use borrow.Author.Tests.{eq-eqb, le-leb, lt-leb, lt-ltb, le-ltb}
 use lib.Dec.{leb, ltb}
 use lib.ListN.{length, get_or, take, replicate, length-replicate, replicate-append-replicate}
 use lib.Seq.{take_at}
-use Rattle.circuit.specs.declared.Answer.{Answer}
-use Rattle.circuit.specs.declared.Answer.TheVariants.{Done, Refused}
 use Rattle.circuit.specs.declared.Refusal.TheVariants.{Shape, Length, Target, TooDeep, TooShallow}
 use Rattle.circuit.specs.Lines.{Listing, any_of}
-use Rattle.circuit.specs.Structs.{no_circuit}
-use Rattle.circuit.specs.Rules.{shaped, unless}
+use Rattle.circuit.specs.Structs.{held}
+use Rattle.circuit.specs.Rules.{Answer, done, shaped, and_then, unless}
 use Rattle.circuit.proofs.Padding.{pad_read}
 use Rattle.circuit.proofs.Shapes.{past, shape_is}
 use Rattle.distance.specs.Base.{Line, Xor, Reads, Makes, inputs, arriving}
 use Rattle.distance.proofs.Weight.{arriving-none, load-none}
 use Rattle.builder.specs.Rule.{Row, row, rows_of, greedy_circuit}
-use Rattle.builder.specs.Call.{within, built, bad_row, too_heavy, refusal, planned, plan_of}
+use Rattle.builder.specs.Call.{within, built, bad_row, too_heavy, refusal, plan_of}
 use Rattle.builder.specs.Late.{late_built, lists_fit, any_deep, too_late, late_refusal, late_plan_of}
 use Rattle.builder.specs.Matrix.{Computes, ComputesLate}
 use Rattle.builder.proofs.Refusals.{Ahead, Accepted, accepted}
@@ -93,11 +92,11 @@ module _ (n : ℕ) (ts : List ℕ) (D : ℕ) where
   unfolding refusal late_refusal
   refusal_late = go (shaped n (length ts) 0) refl
     where
-      rest : shaped n (length ts) 0 ≡ true → unless (not (any_of (map (bad_row n) ts))) Target (unless (leb D 15) TooDeep (unless (not (any_of (map (too_heavy n D) ts))) TooShallow Done))
+      rest : shaped n (length ts) 0 ≡ true → unless (not (any_of (map (bad_row n) ts))) Target (unless (leb D 15) TooDeep (unless (not (any_of (map (too_heavy n D) ts))) TooShallow done))
           ≡ unless (lists_fit n (at_once n) ts (alike D ts)) Length
           (unless (not (any_of (map (bad_row n) ts))) Target
           (unless (not (any_deep (at_once n) || any_deep (alike D ts))) TooDeep
-          (unless (not (any_of (map (too_late n (at_once n)) (rows_of ts (alike D ts))))) TooShallow Done)))
+          (unless (not (any_of (map (too_late n (at_once n)) (rows_of ts (alike D ts))))) TooShallow done)))
       rest h =
           rw (
             eq-eqb (length (at_once n)) n (length-replicate n 0),
@@ -109,12 +108,12 @@ module _ (n : ℕ) (ts : List ℕ) (D : ℕ) where
           )
 
       go : (x : Bool) → shaped n (length ts) 0 ≡ x
-          → unless x Shape (unless (not (any_of (map (bad_row n) ts))) Target (unless (leb D 15) TooDeep (unless (not (any_of (map (too_heavy n D) ts))) TooShallow Done)))
+          → unless x Shape (unless (not (any_of (map (bad_row n) ts))) Target (unless (leb D 15) TooDeep (unless (not (any_of (map (too_heavy n D) ts))) TooShallow done)))
           ≡ unless x Shape
           (unless (lists_fit n (at_once n) ts (alike D ts)) Length
           (unless (not (any_of (map (bad_row n) ts))) Target
           (unless (not (any_deep (at_once n) || any_deep (alike D ts))) TooDeep
-          (unless (not (any_of (map (too_late n (at_once n)) (rows_of ts (alike D ts))))) TooShallow Done))))
+          (unless (not (any_of (map (too_late n (at_once n)) (rows_of ts (alike D ts))))) TooShallow done))))
       go true h = rest h
       go false h = refl
 
@@ -133,23 +132,23 @@ ahead_alike n ts D shape rows depth =
 -- ---- the plan
 
 -- n or the number of rows out of range
-pub shape_plan : (n : ℕ) (ts : List ℕ) (D : ℕ) → shaped n (length ts) 0 ≡ false → plan_of n ts D ≡ record { circuit = no_circuit; answer = Refused Shape }
+pub shape_plan : (n : ℕ) (ts : List ℕ) (D : ℕ) → shaped n (length ts) 0 ≡ false → plan_of n ts D ≡ Err Shape
 unfolding plan_of refusal
 shape_plan n ts D h = rw h
 
 -- beside a refusal there is no circuit
-refused_alike : (a : Answer) (b c : Listing) → (a ≡ Done → ⊥) → planned a b ≡ planned a c
-refused_alike Done b c h = absurd (h refl)
-refused_alike (Refused w) b c h = refl
+refused_alike : (a : Answer) (b c : Listing) → (a ≡ done → ⊥) → and_then a (Ok (held b)) ≡ and_then a (Ok (held c))
+refused_alike (Ok _) b c h = absurd (h refl)
+refused_alike (Err w) b c h = refl
 
 -- every depth limit over 15 is refused alike, and before anything that depends on it
 too_deep : (n : ℕ) (ts : List ℕ) (D E : ℕ) → 15 < D → 15 < E → refusal n ts D ≡ refusal n ts E
 unfolding refusal
 too_deep n ts D E h k =
-    ap (λ (x : Bool). unless (shaped n (length ts) 0) Shape (unless (not (any_of (map (bad_row n) ts))) Target (unless x TooDeep (unless (not (any_of (map (too_heavy n D) ts))) TooShallow Done)))) (lt-leb D 15 h)
-    ∙ ap (λ (x : Bool). unless (shaped n (length ts) 0) Shape (unless (not (any_of (map (bad_row n) ts))) Target (unless x TooDeep (unless (not (any_of (map (too_heavy n E) ts))) TooShallow Done)))) (sym (lt-leb E 15 k))
+    ap (λ (x : Bool). unless (shaped n (length ts) 0) Shape (unless (not (any_of (map (bad_row n) ts))) Target (unless x TooDeep (unless (not (any_of (map (too_heavy n D) ts))) TooShallow done)))) (lt-leb D 15 h)
+    ∙ ap (λ (x : Bool). unless (shaped n (length ts) 0) Shape (unless (not (any_of (map (bad_row n) ts))) Target (unless x TooDeep (unless (not (any_of (map (too_heavy n E) ts))) TooShallow done)))) (sym (lt-leb E 15 k))
 
-deep_refused : (n : ℕ) (ts : List ℕ) (D : ℕ) → 15 < D → refusal n ts D ≡ Done → ⊥
+deep_refused : (n : ℕ) (ts : List ℕ) (D : ℕ) → 15 < D → refusal n ts D ≡ done → ⊥
 unfolding refusal
 deep_refused n ts D h e =
     let a = past (shaped n (length ts) 0) Shape e in
@@ -162,7 +161,7 @@ deep_refused n ts D h e =
 module _ (n : ℕ) (ts : List ℕ) where
   plan_at : (D : ℕ) → plan_of n ts D ≡ late_plan_of n (at_once n) ts (alike D ts)
   unfolding plan_of late_plan_of
-  plan_at D = ap₂ planned (refusal_late n ts D) (built_late n ts D)
+  plan_at D = ap₂ (λ (a : Answer) (c : Listing). and_then a (Ok (held c))) (refusal_late n ts D) (built_late n ts D)
 
   -- a limit may be given in a byte: 16 for each one over 15
   pub plan_late : (D : ℕ) → plan_of n ts D ≡ late_plan_of n (at_once n) ts (alike (min D 16) ts)
@@ -170,7 +169,7 @@ module _ (n : ℕ) (ts : List ℕ) where
   plan_late D = elim (dec_lt 15 D) [
     | yes h ↦
         let e : min D 16 ≡ 16 = omega arith in
-        ap (λ (a : Answer). planned a (built n ts D)) (too_deep n ts D 16 h (omega arith))
+        ap (λ (a : Answer). and_then a (Ok (held (built n ts D)))) (too_deep n ts D 16 h (omega arith))
         ∙ refused_alike (refusal n ts 16) (built n ts D) (built n ts 16) (deep_refused n ts 16 (omega arith))
         ∙ plan_at 16
         ∙ ap (λ (x : ℕ). late_plan_of n (at_once n) ts (alike x ts)) (sym e)
@@ -197,7 +196,7 @@ module _ (n : ℕ) (ts : List ℕ) (D : ℕ) (gs : List Xor) where
 
 -- ---- the circuit built has room in a stored form
 module _ (n : ℕ) (ts : List ℕ) (D : ℕ) where
-  pub built_accepted : refusal n ts D ≡ Done → Accepted n (at_once n) ts (alike D ts)
+  pub built_accepted : refusal n ts D ≡ done → Accepted n (at_once n) ts (alike D ts)
   built_accepted ok = accepted n (at_once n) ts (alike D ts) (sym (refusal_late n ts D) ∙ ok)
 
   pub built-inputs : (built n ts D).inputs ≡ n

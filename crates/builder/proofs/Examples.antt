@@ -1,7 +1,8 @@
 -- K1 to K5, and the edge of row 255 at D = 2, computed from the definitions.
+use Rattle.std.specs.Prelude.{Err}
+use Rattle.circuit.specs.Rules.{done}
 use mathlib.Core.List.{[], ◌∷◌}
 use mathlib.Core.Path.{◌≡◌, refl}
-use Rattle.circuit.specs.declared.Answer.TheVariants.{Done, Refused}
 use Rattle.circuit.specs.declared.Refusal.TheVariants.{TooShallow}
 use Rattle.circuit.specs.Rules.{shaped}
 use Rattle.circuit.specs.Lines.{listing}
@@ -20,7 +21,7 @@ pub k2 : built 3 (3 ∷ 7 ∷ 6 ∷ []) 3 ≡ listing 3 (xor_gate (xor 0 1) ∷ 
 unfolding reach taken greedy_circuit built
 k2 = refl
 
-pub k3 : refusal 3 (3 ∷ 7 ∷ 6 ∷ []) 1 ≡ Refused TooShallow
+pub k3 : refusal 3 (3 ∷ 7 ∷ 6 ∷ []) 1 ≡ Err TooShallow
 unfolding refusal shaped
 k3 = refl
 
@@ -33,12 +34,12 @@ unfolding reach taken greedy_circuit built gate_bytes out_bytes
 k5 = refl
 
 -- none of these is refused
-pub sound : (refusal 3 (3 ∷ 7 ∷ 6 ∷ []) 2 ≡ Done) × (refusal 3 (3 ∷ 7 ∷ 6 ∷ []) 3 ≡ Done) × (refusal 4 (7 ∷ 11 ∷ []) 2 ≡ Done) × (refusal 1 (1 ∷ []) 0 ≡ Done)
+pub sound : (refusal 3 (3 ∷ 7 ∷ 6 ∷ []) 2 ≡ done) × (refusal 3 (3 ∷ 7 ∷ 6 ∷ []) 3 ≡ done) × (refusal 4 (7 ∷ 11 ∷ []) 2 ≡ done) × (refusal 1 (1 ∷ []) 0 ≡ done)
 unfolding refusal shaped
 sound = (refl, refl, refl, refl)
 
 -- row 255 at n = 8 is refused 10 at D = 2, and not at D = 3
-pub edge : (refusal 8 (255 ∷ []) 2 ≡ Refused TooShallow) × (refusal 8 (255 ∷ []) 3 ≡ Done)
+pub edge : (refusal 8 (255 ∷ []) 2 ≡ Err TooShallow) × (refusal 8 (255 ∷ []) 3 ≡ done)
 unfolding refusal shaped
 edge = (refl, refl)
 
@@ -48,6 +49,6 @@ unfolding reach taken greedy_circuit late_built
 late = refl
 
 -- it is not refused; with limit 2 for row 7, whose inputs come to 4 + 1 + 1, it is refused 10
-pub late_edge : (late_refusal 3 (2 ∷ 0 ∷ 0 ∷ []) (3 ∷ 7 ∷ 6 ∷ []) (3 ∷ 3 ∷ 3 ∷ []) ≡ Done) × (late_refusal 3 (2 ∷ 0 ∷ 0 ∷ []) (3 ∷ 7 ∷ 6 ∷ []) (3 ∷ 2 ∷ 3 ∷ []) ≡ Refused TooShallow)
+pub late_edge : (late_refusal 3 (2 ∷ 0 ∷ 0 ∷ []) (3 ∷ 7 ∷ 6 ∷ []) (3 ∷ 3 ∷ 3 ∷ []) ≡ done) × (late_refusal 3 (2 ∷ 0 ∷ 0 ∷ []) (3 ∷ 7 ∷ 6 ∷ []) (3 ∷ 2 ∷ 3 ∷ []) ≡ Err TooShallow)
 unfolding late_refusal shaped
 late_edge = (refl, refl)

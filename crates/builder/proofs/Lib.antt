@@ -11,6 +11,7 @@ pub mod Goals
 pub mod Choice
 pub mod Weighed
 pub mod Passing
+pub mod Fields
 pub mod Steps
 pub mod Refusals
 pub mod MaskSums

@@ -1,4 +1,5 @@
 -- What a plan and a build give, from what their parts give; and that two results meeting a promise are equal.
+use Rattle.std.specs.Prelude.{Ok, Err}
 use mathlib.Core.Bool.{true, cond}
 use mathlib.Core.List.{List}
 use mathlib.Core.Path.{◌≡◌, refl, sym, ap, ◌∙◌}
@@ -6,26 +7,21 @@ use Prim.Native.Nat.{ℕ, ◌≤◌}
 use native.Mathlib.Omega.{arith}
 use lib.Dec.{leb}
 use lib.ListN.{length, length-map}
-use Rattle.circuit.specs.declared.Answer.{Answer}
-use Rattle.circuit.specs.declared.Answer.TheVariants.{Done, Refused}
 use Rattle.circuit.specs.declared.Circuit.{Circuit}
+use Rattle.circuit.specs.declared.Refusal.{Refusal}
 use Rattle.circuit.specs.declared.Refusal.TheVariants.{Shape, NoRoom}
 use Rattle.circuit.specs.Lines.{Listing}
 use Rattle.circuit.specs.Structs.{held, listed}
-use Rattle.circuit.specs.Rules.{shaped, listing_answer}
+use Rattle.circuit.specs.Rules.{Answer, done, and_then, shaped, listing_answer}
 use Rattle.circuit.proofs.Listed.{listed-held}
 use Rattle.circuit.proofs.RuleLaws.{circuit_fits}
 use Rattle.circuit.proofs.Shapes.{shape_is, shape_true}
-use Rattle.stored.specs.declared.Writing.{Writing}
-use Rattle.stored.specs.declared.Writing.TheVariants.{Written, NotWritten}
 use Rattle.stored.specs.Stored.{stored}
-use Rattle.stored.specs.Writing.{write_answer, room_after, into_room}
+use Rattle.stored.specs.Writing.{Writing, Wrote, write_answer, room_after, into_room}
 use Rattle.distance.specs.Base.{Line, arriving}
-use Rattle.builder.specs.declared.Planned.{Planned}
 use Rattle.builder.specs.Rule.{Row, rows_of, taken, xor_gate, greedy_circuit}
-use Rattle.builder.specs.Call.{planned, Builds, BuildsNumbered}
+use Rattle.builder.specs.Call.{Builds, BuildsNumbered}
 use Rattle.builder.specs.Late.{late_built, BuildsLate, BuildsLateNumbered}
-use Rattle.builder.specs.Kept.{PlanWritten}
 use Rattle.builder.proofs.Lists.{rows_length}
 use Rattle.builder.proofs.Begin.{taken_few}
 
@@ -80,29 +76,28 @@ module _ (n : ℕ) (ar ts ds : List ℕ) where
       })
 
 -- ---- what is written of a plan
-planned_answer : (a : Answer) (c : Listing) → (planned a c).answer ≡ a
-planned_answer Done c = refl
-planned_answer (Refused w) c = refl
 
 -- what stands in a room after a plan with this answer and this circuit
 pub record Put (a : Answer) (c : Listing) (room : List ℕ) (r : Writing) (out : List ℕ) : Type 0 where
   pub answer : r ≡ into_room a (length (stored c)) (length room)
   pub bytes : out ≡ room_after (into_room a (length (stored c)) (length room)) (stored c) room
 
-module _ (c : Listing) (p : Planned) (room : List ℕ) (r : Writing) (out : List ℕ) (h : PlanWritten p room r out) where
+module _ (c : Listing) (room : List ℕ) where
+  -- a refusal leaves the room as it was
+  pub refusal_put : (a : Answer) (w : Refusal) → Err w ≡ and_then a (Ok (held c)) → Put a c room (Err w) room
+  refusal_put (Ok _) w e = let z : ◌≡◌ {A = ℕ} 0 1 = cc in absurd (omega arith)
+  refusal_put (Err v) w e = let z : w ≡ v = cc in record { answer = ap Err z; bytes = refl }
+
   -- the circuit planned is sound, and so its struct stands for it
-  pub plan_put : (a : Answer) → (a ≡ Done → listing_answer true c ≡ Done) → p ≡ planned a c → Put a c room r out
+  pub plan_put : (a : Answer) (p : Circuit) (r : Writing) (out : List ℕ) → (a ≡ done → listing_answer true c ≡ done) → Ok p ≡ and_then a (Ok (held c)) → Wrote p room r out → Put a c room r out
   unfolding write_answer
-  plan_put (Refused w) sound e =
-      let q = h.refused w (ap (λ (x : Planned). x.answer) e) in
-      record { answer = q.0; bytes = q.1 }
-  plan_put Done sound e =
-      let w = h.done (ap (λ (x : Planned). x.answer) e) in
-      let k : p.circuit ≡ held c = ap (λ (x : Planned). x.circuit) e in
+  plan_put (Err v) p r out sound e w = let z : ◌≡◌ {A = ℕ} 0 1 = cc in absurd (omega arith)
+  plan_put (Ok _) p r out sound e w =
+      let k : p ≡ held c = cc in
       let s = ap (λ (x : Circuit). stored (listed x)) k ∙ ap stored (listed-held true c (sound refl)) in
-      let f : shaped p.circuit.n p.circuit.m p.circuit.g ≡ true = ap (λ (x : Circuit). shaped x.n x.m x.g) k ∙ (circuit_fits true c (sound refl)).shaped-true in
-      let a : write_answer p.circuit (length room) ≡ into_room Done (length (stored c)) (length room) =
-      λ i. cond (f i) (cond (leb (length (s i)) (length room)) (Written (length (s i))) (NotWritten NoRoom)) (NotWritten Shape) in
+      let f : shaped p.n p.m p.g ≡ true = ap (λ (x : Circuit). shaped x.n x.m x.g) k ∙ (circuit_fits true c (sound refl)).shaped-true in
+      let a : write_answer p (length room) ≡ into_room done (length (stored c)) (length room) =
+      λ i. cond (f i) (cond (leb (length (s i)) (length room)) (Ok (length (s i))) (Err NoRoom)) (Err Shape) in
       record { answer = w.answer ∙ a; bytes = w.bytes ∙ (λ i. room_after (a i) (s i) room) }
 
 -- ---- two results that meet a promise are equal

@@ -1,4 +1,6 @@
 -- Laws of the look at a call: tests of every entry, the weight of a row, and what an accepted call is.
+use Rattle.std.specs.Prelude.{Err}
+use Rattle.circuit.specs.Rules.{done}
 use mathlib.Core.Bool.{Bool, true, false, not, ◌||◌}
 use mathlib.Core.List.{List, [], ◌∷◌, map}
 use mathlib.Core.Path.{◌≡◌, refl, sym, ap, ◌∙◌}
@@ -7,11 +9,11 @@ use native.Mathlib.Decide.{dec_lt}
 use native.Mathlib.Nat.{pow-suc}
 use native.Mathlib.Numerals.{add-one}
 use native.Mathlib.Omega.{arith}
-use borrow.Author.Tests.{eq-eqb, ne_eqb, eqb-true, le-leb, lt-leb, leb-false, ltb-false, not-true}
+use borrow.Author.Tests.{eq-eqb, ne_eqb, eqb-true, leb-false, ltb-false, not-true}
 use lib.Dec.{leb, ltb, eqb}
 use lib.ListN.{length, get_or, drop, drop_of_length-le}
 use lib.Pow.{pow_pos}
-use Rattle.circuit.specs.declared.Answer.TheVariants.{Done, Refused}
+use Rattle.std.specs.List.{list_any}
 use Rattle.circuit.specs.declared.Refusal.TheVariants.{Shape, Length, Target, TooDeep, TooShallow}
 use Rattle.circuit.specs.Lines.{any_of}
 use Rattle.circuit.specs.Rules.{shaped, unless}
@@ -24,7 +26,12 @@ use Rattle.builder.specs.Call.{bad_row}
 use Rattle.builder.specs.Late.{lists_fit, any_deep, too_late, late_refusal}
 use Rattle.builder.specs.Kept.{Looking}
 
--- ---- whether a test holds of some entry, from a place on
+-- ---- whether a test holds of some entry: as the library has it,
+pub any_is : {A : Type 0} (f : A → Bool) (xs : List A) → any_of (map f xs) ≡ list_any f xs
+any_is f [] = refl
+any_is f (x ∷ xs) = ap (λ (b : Bool). f x || b) (any_is f xs)
+
+-- and from a place on
 module _ {A : Type 0} (f : A → Bool) (xs : List A) (d : A) (i : ℕ) where
   any_next : i < length xs → any_of (map f (drop i xs)) ≡ (f (get_or xs i d) || any_of (map f (drop (i + 1) xs)))
   any_next h = ap (λ (l : List A). any_of (map f l)) (drop_at_next xs i d h)
@@ -83,12 +90,6 @@ module _ (n t : ℕ) where
   pub bad_none : t ≡ 0 → bad_row n t ≡ true
   bad_none e = rw (eq-eqb t 0 e)
 
-  pub bad_high : (t ≡ 0 → ⊥) → 2 ^ n ≤ t → bad_row n t ≡ true
-  bad_high e p = rw (ne_eqb t 0 e, le-leb (2 ^ n) t p)
-
-  pub bad_not : (t ≡ 0 → ⊥) → t < 2 ^ n → bad_row n t ≡ false
-  bad_not e p = rw (ne_eqb t 0 e, lt-leb (2 ^ n) t p)
-
   pub good_some : bad_row n t ≡ false → t ≡ 0 → ⊥
   good_some e z = let q = sym (bad_none z) ∙ e in let w : ◌≡◌ {A = ℕ} 0 1 = cc in omega arith
 
@@ -118,32 +119,32 @@ below_all n (t ∷ ts) f (suc i) = below_all n ts (λ j h. f (suc j) (omega arit
 
 -- ---- the chain of tests
 module _ (n : ℕ) (ar ts ds : List ℕ) where
-  pub refused_shape : shaped n (length ts) 0 ≡ false → Refused Shape ≡ late_refusal n ar ts ds
+  pub refused_shape : shaped n (length ts) 0 ≡ false → Err Shape ≡ late_refusal n ar ts ds
   unfolding late_refusal
   refused_shape a = rw a
 
   module _ (a : shaped n (length ts) 0 ≡ true) where
-    pub refused_arrivals : (length ar ≡ n → ⊥) → Refused Length ≡ late_refusal n ar ts ds
+    pub refused_arrivals : (length ar ≡ n → ⊥) → Err Length ≡ late_refusal n ar ts ds
     unfolding late_refusal
     refused_arrivals b = rw (a, ne_eqb (length ar) n b)
 
     module _ (b : length ar ≡ n) where
-      pub refused-limits : (length ds ≡ length ts → ⊥) → Refused Length ≡ late_refusal n ar ts ds
+      pub refused-limits : (length ds ≡ length ts → ⊥) → Err Length ≡ late_refusal n ar ts ds
       unfolding late_refusal
       refused-limits c = rw (a, eq-eqb (length ar) n b, ne_eqb (length ds) (length ts) c)
 
       module _ (c : length ds ≡ length ts) where
-        pub refused-row : any_of (map (bad_row n) ts) ≡ true → Refused Target ≡ late_refusal n ar ts ds
+        pub refused-row : any_of (map (bad_row n) ts) ≡ true → Err Target ≡ late_refusal n ar ts ds
         unfolding late_refusal
         refused-row d = rw (a, eq-eqb (length ar) n b, eq-eqb (length ds) (length ts) c, d)
 
         module _ (d : any_of (map (bad_row n) ts) ≡ false) where
-          pub refused_early : any_deep ar ≡ true → Refused TooDeep ≡ late_refusal n ar ts ds
+          pub refused_early : any_deep ar ≡ true → Err TooDeep ≡ late_refusal n ar ts ds
           unfolding late_refusal
           refused_early e = rw (a, eq-eqb (length ar) n b, eq-eqb (length ds) (length ts) c, d, e)
 
           module _ (e : any_deep ar ≡ false) where
-            pub refused_deep : any_deep ds ≡ true → Refused TooDeep ≡ late_refusal n ar ts ds
+            pub refused_deep : any_deep ds ≡ true → Err TooDeep ≡ late_refusal n ar ts ds
             unfolding late_refusal
             refused_deep f = rw (a, eq-eqb (length ar) n b, eq-eqb (length ds) (length ts) c, d, e, f)
 
@@ -158,7 +159,7 @@ pub record Ahead (n : ℕ) (ar ts ds : List ℕ) : Type 0 where
 
 module _ (n : ℕ) (ar ts ds : List ℕ) (p : Ahead n ar ts ds) where
   -- whether it is too shallow is asked last
-  pub refused_last : (x : Bool) → any_of (map (too_late n ar) (rows_of ts ds)) ≡ x → late_refusal n ar ts ds ≡ unless (not x) TooShallow Done
+  pub refused_last : (x : Bool) → any_of (map (too_late n ar) (rows_of ts ds)) ≡ x → late_refusal n ar ts ds ≡ unless (not x) TooShallow done
   unfolding late_refusal
   refused_last x e = rw (p.shape, eq-eqb (length ar) n p.arrivals, eq-eqb (length ds) (length ts) p.limits, p.rows, p.early, p.shallow, e)
 
@@ -185,7 +186,7 @@ pub record Accepted (n : ℕ) (ar ts ds : List ℕ) : Type 0 where
   pub ahead : Ahead n ar ts ds
   pub light : any_of (map (too_late n ar) (rows_of ts ds)) ≡ false
 
-pub accepted : (n : ℕ) (ar ts ds : List ℕ) → late_refusal n ar ts ds ≡ Done → Accepted n ar ts ds
+pub accepted : (n : ℕ) (ar ts ds : List ℕ) → late_refusal n ar ts ds ≡ done → Accepted n ar ts ds
 unfolding late_refusal
 accepted n ar ts ds e =
     let a = past (shaped n (length ts) 0) Shape e in

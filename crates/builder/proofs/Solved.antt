@@ -1,4 +1,6 @@
 -- The circuit built for a call that nothing refuses: its gates, its outputs' depths and values; and that 10 is given exactly where there is no program.
+use Rattle.std.specs.Prelude.{Err}
+use Rattle.circuit.specs.Rules.{done}
 use mathlib.Core.Bool.{Bool, true, false, cond}
 use mathlib.Core.List.{List, [], ◌∷◌, ◌++◌, map}
 use mathlib.Core.Path.{◌≡◌, refl, sym, ap, ap₂, ◌∙◌, subst}
@@ -7,7 +9,6 @@ use native.Mathlib.Omega.{arith}
 use borrow.Author.Tests.{lt-ltb, ltb-true, eqb-true, leb-true, eq-eqb, le-leb}
 use lib.Dec.{leb, eqb}
 use lib.ListN.{length, get_or, length-append, length-map}
-use Rattle.circuit.specs.declared.Answer.TheVariants.{Done, Refused}
 use Rattle.circuit.specs.declared.Refusal.TheVariants.{TooShallow}
 use Rattle.circuit.specs.Gate.{row_value_on}
 use Rattle.circuit.specs.Lines.{gate_at, output_on, depth_step, truth_step, any_of, lines, values}
@@ -112,14 +113,14 @@ sound_at (r ∷ rs) s zero h = s.0
 sound_at (r ∷ rs) s (suc i) h = sound_at rs s.1 i (omega arith)
 
 -- ---- XOR gates that read lines, and outputs that name lines, pass the rules
-gates_fine : (ls : List Line) (hs : List Xor) → Reads ls hs → gates_answer true (length ls) (map xor_gate hs) ≡ Done
+gates_fine : (ls : List Line) (hs : List Xor) → Reads ls hs → gates_answer true (length ls) (map xor_gate hs) ≡ done
 unfolding gates_answer gate_answer
 gates_fine ls [] w = refl
 gates_fine ls (g ∷ hs) w =
     let l : suc (length ls) ≡ length (ls ++ (made ls g ∷ [])) = omega (arith, length-append ls (made ls g ∷ [])) in
     rw (two_fit (length ls) (xor_gate g) (omega arith), lt-ltb g.a (length ls) w.0, lt-ltb g.b (length ls) w.1, l) (gates_fine (ls ++ (made ls g ∷ [])) hs w.2)
 
-outs_fine : (k : ℕ) (os : List ℕ) → ((i : ℕ) → i < length os → get_or os i 0 < k) → outs_answer k os ≡ Done
+outs_fine : (k : ℕ) (os : List ℕ) → ((i : ℕ) → i < length os → get_or os i 0 < k) → outs_answer k os ≡ done
 unfolding outs_answer out_answer
 outs_fine k [] f = refl
 outs_fine k (o ∷ os) f = rw (lt-ltb o k (f 0 (omega arith))) (outs_fine k os (λ i h. f (suc i) (omega arith)))
@@ -217,13 +218,13 @@ module _ (n : ℕ) (ar ts ds : List ℕ) (a : Accepted n ar ts ds) where
       }
 
   -- it is a circuit, with XOR gates only
-  pub sound_circuit : listing_answer true (late_built n ar ts ds) ≡ Done
+  pub sound_circuit : listing_answer true (late_built n ar ts ds) ≡ done
   unfolding listing_answer late_built greedy_circuit
   sound_circuit =
       let l = arriving-length n ar in
       rw (
         late_shaped n ar ts ds seen.limits a.ahead.shape,
-        subst (λ (k : ℕ). gates_answer true k (map xor_gate gs) ≡ Done) l (gates_fine first gs reached.reads),
+        subst (λ (k : ℕ). gates_answer true k (map xor_gate gs) ≡ done) l (gates_fine first gs reached.reads),
         outs_fine (n + length (map xor_gate gs)) (map (lowest all) rs) outs_below,
       )
     where
@@ -248,22 +249,22 @@ module _ (n : ℕ) (ar ts ds : List ℕ) (p : Ahead n ar ts ds) where
       let over = ltb-true (2 ^ D) (load n ar t) (ap (too_late n ar) (sym (rows_at ts ds i l)) ∙ s.holds) in
       too-late n ar t D (length gs) over (record { gates = gs; count = refl; makes = c.makes i (omega (arith, s.within, rows_length ts ds l)) })
 
-  pub shallow_late : late_refusal n ar ts ds ≡ Refused TooShallow → late ≡ true
+  pub shallow_late : late_refusal n ar ts ds ≡ Err TooShallow → late ≡ true
   shallow_late e = go late refl
     where
       go : (x : Bool) → late ≡ x → late ≡ true
       go true h = h
       go false h = let q = sym (refused_last n ar ts ds p false h) ∙ e in let z : ◌≡◌ {A = ℕ} 0 1 = cc in absurd (omega arith)
 
-  pub late_shallow : late ≡ true → late_refusal n ar ts ds ≡ Refused TooShallow
+  pub late_shallow : late ≡ true → late_refusal n ar ts ds ≡ Err TooShallow
   late_shallow h = refused_last n ar ts ds p true h
 
-  pub shallow-none : late_refusal n ar ts ds ≡ Refused TooShallow → (gs : List Xor) → ComputesLate n ar ts ds gs → ⊥
+  pub shallow-none : late_refusal n ar ts ds ≡ Err TooShallow → (gs : List Xor) → ComputesLate n ar ts ds gs → ⊥
   shallow-none e = no_program (shallow_late e)
 
-  pub none-shallow : ((gs : List Xor) → ComputesLate n ar ts ds gs → ⊥) → late_refusal n ar ts ds ≡ Refused TooShallow
+  pub none-shallow : ((gs : List Xor) → ComputesLate n ar ts ds gs → ⊥) → late_refusal n ar ts ds ≡ Err TooShallow
   none-shallow f = go late refl
     where
-      go : (x : Bool) → late ≡ x → late_refusal n ar ts ds ≡ Refused TooShallow
+      go : (x : Bool) → late ≡ x → late_refusal n ar ts ds ≡ Err TooShallow
       go true h = late_shallow h
       go false h = absurd (f (taken (arriving n ar) (rows_of ts ds)) (program_computes n ar ts ds (record { ahead = p; light = h })))

@@ -245,9 +245,6 @@ module _ (ts limits : List ℕ) (s : State) (p : Poised ts limits s) where
         taken_next : take (length ts) gaps' ≡ distances new rs
         taken_next = ap (take (length ts)) gaps_next ∙ padded-take most_outputs 0 (distances new rs) (length ts) next_long
 
-        pub next_wide : length gaps' ≡ most_outputs
-        next_wide = ap length gaps_next ∙ padded-length most_outputs 0 (distances new rs) (omega (arith, next_long, p.few))
-
         -- no distance grew
         top_falls : greatest (distances new rs) ≤ greatest (distances (base s) rs)
         top_falls =
@@ -339,13 +336,11 @@ module _ (first : List Line) (ts limits : List ℕ) (s : State) (z : SoFar first
         rights = z.rights ∙ ap (λ (l : List Xor). padded most_gates 0 (map (λ (g : Xor). g.b) l)) (sym t);
         counted = sym z.counted ∙ ap length (sym t);
         within = z.poised.within;
+        shallow = z.poised.shallow;
       }
 
-  pub grown_over : s.count < 224 → true ≡ eqb (sum (distances (base s) rows)) 0 → Grown first rows s
-  grown_over q e = ended (step (224 - s.count) (base s) rows true (omega arith) (sym e))
-
-  pub grown_end : 224 ≤ s.count → Grown first rows s
-  grown_end q = ended (let e : 224 - s.count ≡ 0 = omega arith in ap (λ (x : ℕ). greedy x (base s) rows) e)
+  pub grown_over : s.count < 224 → eqb (sum (distances (base s) rows)) 0 ≡ true → Grown first rows s
+  grown_over q e = ended (step (224 - s.count) (base s) rows true (omega arith) e)
 
   pub stands_next : (h g : List ℕ) (r : State) (i j : ℕ) → Tabled ts limits s h → Next (base s) rows i j → s.count < 224 → Stepped ts limits s r g i j → SoFar first ts limits r
   stands_next h g r i j t nx q e =

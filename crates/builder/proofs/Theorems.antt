@@ -1,4 +1,6 @@
 -- What is proved of the builder: the statements, each with the name of its proof.
+use Rattle.std.specs.Prelude.{Ok, Err}
+use Rattle.circuit.specs.Rules.{done}
 use mathlib.Core.Bool.{true, false}
 use mathlib.Core.List.{List, [], ◌∷◌, map}
 use mathlib.Core.Logic.{◌↔◌}
@@ -6,14 +8,12 @@ use mathlib.Core.Path.{◌≡◌, refl, sym, ap, ◌∙◌, subst}
 use Prim.Native.Nat.{ℕ, zero, suc, ◌-◌, ◌^◌, ◌≤◌, ◌<◌}
 use native.Mathlib.Omega.{arith}
 use lib.ListN.{length, get_or, length-replicate}
-use Rattle.circuit.specs.declared.Answer.TheVariants.{Done, Refused}
 use Rattle.circuit.specs.declared.Refusal.TheVariants.{TooShallow}
 use Rattle.circuit.specs.Gate.{row_value_on}
 use Rattle.circuit.specs.Lines.{Listing, gate_at, no_gate, depths, depth_of, overall, output_on, any_of}
 use Rattle.circuit.specs.Rules.{shaped, listing_answer}
 use Rattle.stored.specs.Stored.{stored}
 use Rattle.stored.specs.Reading.{read_stored}
-use Rattle.stored.specs.Reading.Outcome.{found}
 use Rattle.stored.proofs.Round.{read-stored}
 use Rattle.distance.specs.Base.{Line, Xor, arriving, weight}
 use Rattle.distance.specs.Distance.{can, gates, distance, numbers, Leads, first_set}
@@ -52,7 +52,7 @@ module _ (ls : List Line) (r : Row) (near : distance 8 ls r.mask r.limit ≡ gat
   first_pair_is_first = two.first_among ls r some_two
 
 -- ---- A call with late signals that nothing refuses.
-module _ (n : ℕ) (ar ts ds : List ℕ) (ok : late_refusal n ar ts ds ≡ Done) where
+module _ (n : ℕ) (ar ts ds : List ℕ) (ok : late_refusal n ar ts ds ≡ done) where
   -- The program built has only XOR gates,
   pub late_only_xor : (k : ℕ) → (gate_at (late_built n ar ts ds) k).kind ≡ 0
   unfolding late_built greedy_circuit
@@ -64,11 +64,11 @@ module _ (n : ℕ) (ar ts ds : List ℕ) (ok : late_refusal n ar ts ds ≡ Done)
       kinds (g ∷ gs) (suc k) = kinds gs k
 
   -- is a circuit: its gates read lines with numbers below their own, and its outputs name lines,
-  pub late_sound : listing_answer true (late_built n ar ts ds) ≡ Done
+  pub late_sound : listing_answer true (late_built n ar ts ds) ≡ done
   late_sound = solved.sound_circuit n ar ts ds (accepted n ar ts ds ok)
 
   -- so that its stored bytes read back as it, under a matrix too,
-  pub late_reads_back : read_stored true (stored (late_built n ar ts ds)) ≡ found (late_built n ar ts ds)
+  pub late_reads_back : read_stored true (stored (late_built n ar ts ds)) ≡ Ok (late_built n ar ts ds)
   late_reads_back = read-stored true (late_built n ar ts ds) late_sound
 
   -- has each output at its row's limit or less, counted from the arrivals,
@@ -86,11 +86,11 @@ module _ (n : ℕ) (ar ts ds : List ℕ) (ok : late_refusal n ar ts ds ≡ Done)
 -- Too shallow, of a call that no refusal ahead of 10 stops:
 module _ (n : ℕ) (ar ts ds : List ℕ) (p : Ahead n ar ts ds) where
   -- 10 is answered exactly when a row's sum of 2 ^ arrival exceeds 2 ^ its limit,
-  pub too_shallow_is_late : (late_refusal n ar ts ds ≡ Refused TooShallow) ↔ (any_of (map (too_late n ar) (rows_of ts ds)) ≡ true)
+  pub too_shallow_is_late : (late_refusal n ar ts ds ≡ Err TooShallow) ↔ (any_of (map (too_late n ar) (rows_of ts ds)) ≡ true)
   too_shallow_is_late = (solved.shallow_late n ar ts ds p, solved.late_shallow n ar ts ds p)
 
   -- and that is the same as no XOR program over the inputs at those arrivals making each row within its own limit.
-  pub too_shallow_is_no_late_program : (late_refusal n ar ts ds ≡ Refused TooShallow) ↔ ((gs : List Xor) → ComputesLate n ar ts ds gs → ⊥)
+  pub too_shallow_is_no_late_program : (late_refusal n ar ts ds ≡ Err TooShallow) ↔ ((gs : List Xor) → ComputesLate n ar ts ds gs → ⊥)
   too_shallow_is_no_late_program = (solved.shallow-none n ar ts ds p, solved.none-shallow n ar ts ds p)
 
 -- ---- The call of 01 is the case of arrivals 0 and one limit: its answers are those of that call,
@@ -98,8 +98,8 @@ pub as_late : (n : ℕ) (ts : List ℕ) (D : ℕ) → (refusal n ts D ≡ late_r
 as_late n ts D = (refusal_late n ts D, built_late n ts D)
 
 -- and so are its theorems. A matrix that nothing refuses:
-module _ (n : ℕ) (ts : List ℕ) (D : ℕ) (ok : refusal n ts D ≡ Done) where
-  taken_late : late_refusal n (at_once n) ts (alike D ts) ≡ Done
+module _ (n : ℕ) (ts : List ℕ) (D : ℕ) (ok : refusal n ts D ≡ done) where
+  taken_late : late_refusal n (at_once n) ts (alike D ts) ≡ done
   taken_late = sym (refusal_late n ts D) ∙ ok
 
   -- what holds of the program that is built for the call with late signals
@@ -111,11 +111,11 @@ module _ (n : ℕ) (ts : List ℕ) (D : ℕ) (ok : refusal n ts D ≡ Done) wher
   only_xor k = by_late (λ c. (gate_at c k).kind) ∙ late_only_xor n (at_once n) ts (alike D ts) taken_late k
 
   -- is a circuit,
-  pub sound_circuit : listing_answer true (built n ts D) ≡ Done
+  pub sound_circuit : listing_answer true (built n ts D) ≡ done
   sound_circuit = by_late (listing_answer true) ∙ late_sound n (at_once n) ts (alike D ts) taken_late
 
   -- so that its stored bytes read back as it, under a matrix too,
-  pub reads-back : read_stored true (stored (built n ts D)) ≡ found (built n ts D)
+  pub reads-back : read_stored true (stored (built n ts D)) ≡ Ok (built n ts D)
   reads-back = read-stored true (built n ts D) sound_circuit
 
   -- has depth at most D,
@@ -146,13 +146,13 @@ module _ (n : ℕ) (ts : List ℕ) (D : ℕ) (ok : refusal n ts D ≡ Done) wher
 -- Too shallow: n and the number of rows are in range, no row is bad, and D is at most 15.
 module _ (n : ℕ) (ts : List ℕ) (D : ℕ) (shape : shaped n (length ts) 0 ≡ true) (rows : any_of (map (bad_row n) ts) ≡ false) (depth : D ≤ 15) where
   -- 10 is answered exactly when a row's weight exceeds 2 ^ D,
-  pub too_shallow_is_heavy : (refusal n ts D ≡ Refused TooShallow) ↔ (any_of (map (too_heavy n D) ts) ≡ true)
+  pub too_shallow_is_heavy : (refusal n ts D ≡ Err TooShallow) ↔ (any_of (map (too_heavy n D) ts) ≡ true)
   too_shallow_is_heavy =
       let q = too_shallow_is_late n (at_once n) ts (alike D ts) (ahead_alike n ts D shape rows depth) in
       (λ e. sym (any_late_heavy n ts D) ∙ q.0 (sym (refusal_late n ts D) ∙ e), λ e. refusal_late n ts D ∙ q.1 (any_late_heavy n ts D ∙ e))
 
   -- and that is the same as no XOR program of that depth computing the matrix.
-  pub too_shallow_is_no_program : (refusal n ts D ≡ Refused TooShallow) ↔ ((gs : List Xor) → Computes n ts D gs → ⊥)
+  pub too_shallow_is_no_program : (refusal n ts D ≡ Err TooShallow) ↔ ((gs : List Xor) → Computes n ts D gs → ⊥)
   too_shallow_is_no_program =
       let q = too_shallow_is_no_late_program n (at_once n) ts (alike D ts) (ahead_alike n ts D shape rows depth) in
       (λ e gs c. q.0 (sym (refusal_late n ts D) ∙ e) gs (computes_late n ts D gs c), λ f. refusal_late n ts D ∙ q.1 (λ gs c. f gs (late_computes n ts D gs c)))

@@ -1,16 +1,14 @@
 -- The call: from n, the rows and a depth limit D to a circuit, or a refusal ("Order. Build"); and what it leaves in the lent room.
-use Rattle.std.specs.Prelude.{Bool, not, ◌||◌, List, map, ◌≡◌, ℕ, ◌^◌, leb, ltb, eqb, length}
-use Rattle.circuit.specs.declared.Answer.{Answer}
-use Rattle.circuit.specs.declared.Answer.TheVariants.{Done, Refused}
+use Rattle.std.specs.Prelude.{Result, Ok, Bool, not, ◌||◌, List, map, ◌≡◌, ℕ, ◌^◌, leb, ltb, eqb, length}
+use Rattle.circuit.specs.declared.Circuit.{Circuit}
+use Rattle.circuit.specs.declared.Refusal.{Refusal}
 use Rattle.circuit.specs.declared.Refusal.TheVariants.{Shape, Target, TooDeep, TooShallow}
 use Rattle.circuit.specs.Lines.{Listing, any_of}
-use Rattle.circuit.specs.Structs.{held, no_circuit}
-use Rattle.circuit.specs.Rules.{shaped, unless}
-use Rattle.stored.specs.declared.Writing.{Writing}
+use Rattle.circuit.specs.Structs.{held}
+use Rattle.circuit.specs.Rules.{Answer, done, shaped, and_then, unless}
 use Rattle.stored.specs.Stored.{stored}
-use Rattle.stored.specs.Writing.{into_room, room_after, writing_code}
+use Rattle.stored.specs.Writing.{Writing, into_room, room_after, writing_code}
 use Rattle.distance.specs.Base.{inputs, weight}
-use Rattle.builder.specs.declared.Planned.{Planned}
 use Rattle.builder.specs.Rule.{Row, row, greedy_circuit}
 
 -- every row has the limit D
@@ -35,16 +33,11 @@ refusal n ts D =
     unless (shaped n (length ts) 0) Shape
     (unless (not (any_of (map (bad_row n) ts))) Target
     (unless (leb D 15) TooDeep
-    (unless (not (any_of (map (too_heavy n D) ts))) TooShallow Done)))
+    (unless (not (any_of (map (too_heavy n D) ts))) TooShallow done)))
 
--- what `plan` gives: the circuit beside the answer, and no circuit beside a refusal
-abbrev pub planned : Answer → Listing → Planned
-planned Done c = record { circuit = held c; answer = Done }
-planned (Refused w) c = record { circuit = no_circuit; answer = Refused w }
-
--- what `plan` gives for n, rows and D
-unfoldable pub plan_of : ℕ → List ℕ → ℕ → Planned
-plan_of n ts D = planned (refusal n ts D) (built n ts D)
+-- what `plan` gives for n, rows and D: the circuit, or why none is built
+unfoldable pub plan_of : ℕ → List ℕ → ℕ → Result Circuit Refusal
+plan_of n ts D = and_then (refusal n ts D) (Ok (held (built n ts D)))
 
 -- how many bytes stand first in the room, or why none does: a room shorter than the stored answer (11) is found last
 unfoldable pub build_answer : ℕ → List ℕ → ℕ → ℕ → Writing

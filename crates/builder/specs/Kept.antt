@@ -1,18 +1,14 @@
 -- What the code keeps from step to step, and what its parts ask and give: the public promises name none of this.
-use Rattle.std.specs.Prelude.{Bool, false, cond, List, [], ◌∷◌, ◌++◌, map, ◌≡◌, ℕ, zero, suc, ◌+◌, ◌-◌, ◌*◌, ◌^◌, ◌≤◌, ◌<◌, leb, eqb, length, get_or, take, set, replicate}
+use Rattle.std.specs.Prelude.{Option, Some, None, true, false, cond, List, [], ◌∷◌, ◌++◌, map, ◌≡◌, ℕ, zero, suc, ◌+◌, ◌-◌, ◌*◌, ◌^◌, ◌≤◌, ◌<◌, leb, eqb, length, get_or, take, set, replicate}
 use Rattle.std.specs.Int.Bits.{bit_xor}
-use Rattle.circuit.specs.declared.Answer.TheVariants.{Done, Refused}
-use Rattle.circuit.specs.declared.Refusal.{Refusal}
 use Rattle.circuit.specs.Sizes.{most_inputs, most_outputs, most_gates, most_lines}
 use Rattle.circuit.specs.Lines.{padded, greatest}
-use Rattle.stored.specs.declared.Writing.{Writing}
-use Rattle.stored.specs.declared.Writing.TheVariants.{NotWritten}
-use Rattle.stored.specs.Writing.{Wrote}
 use Rattle.distance.specs.Base.{Line, base_of, Small, Shallow, Xor, xor, made, run, weight, load}
 use Rattle.distance.specs.Distance.{gates, can}
 use Rattle.distance.specs.Table.{far, cost_at, Holds}
-use Rattle.builder.specs.declared.Planned.{Planned}
 use Rattle.builder.specs.declared.grow.State.{State}
+use Rattle.builder.specs.declared.pairs.Goal.{Goal}
+use Rattle.builder.specs.declared.pairs.Pair.{Pair}
 use Rattle.builder.specs.Rule.{Row, rows_of, reach, distances, sum, next_gate, greedy, taken}
 
 -- a row that the rule is applied to: its mask is not 0, and its limit at most 15
@@ -94,6 +90,16 @@ abbrev pub Tells : (ℕ → ℕ → ℕ) → List Line → List Line → List Ro
 Tells f ls new [] = Unit {0}
 Tells f ls new (r ∷ rs) = ((g : ℕ) → reach ls r ≡ gates (suc g) → f (place_of g r.mask) (room_of g r.limit) ≡ stays new g r) × Tells f ls new rs
 
+-- the three fields of some goals as the code has them
+abbrev pub places : List Goal → List ℕ
+places gs = map (λ (g : Goal). g.place) gs
+
+abbrev pub rooms : List Goal → List ℕ
+rooms gs = map (λ (g : Goal). g.room) gs
+
+abbrev pub lows : List Goal → List ℕ
+lows gs = map (λ (g : Goal). g.low) gs
+
 -- three lists that are goals
 pub record Goals (ps fs gs : List ℕ) : Type 0 where
   pub places : length ps ≡ length gs
@@ -157,10 +163,15 @@ next_gaps f (g ∷ gs) [] ds = []
 next_gaps f (g ∷ gs) (t ∷ ts) [] = []
 next_gaps f (g ∷ gs) (t ∷ ts) (d ∷ ds) = next_gap f g t d ∷ next_gaps f gs ts ds
 
--- the choice: whether every row is made, and if not, the next gate
-pub record Chosen (ls : List Line) (rs : List Row) (over : Bool) (i j : ℕ) : Type 0 where
-  pub over_is : over ≡ eqb (sum (distances ls rs)) 0
-  pub pair : over ≡ false → next_gate ls rs ≡ xor i j
+-- the gate (i, j) is the next one
+pub record Next (ls : List Line) (rs : List Row) (i j : ℕ) : Type 0 where
+  pub left_to_do : eqb (sum (distances ls rs)) 0 ≡ false
+  pub is : next_gate ls rs ≡ xor i j
+
+-- the choice: no gate where every row is made, and else the next one
+abbrev pub Chosen : List Line → List Row → Option Pair → Type 0
+Chosen ls rs None = eqb (sum (distances ls rs)) 0 ≡ true
+Chosen ls rs (Some p) = Next ls rs p.a p.b
 
 -- ---- the steps
 
@@ -197,11 +208,6 @@ pub record Tabled (ts limits : List ℕ) (s : State) (h : List ℕ) : Type 0 whe
   pub held : Held h (base s) (greatest (distances (base s) (rows_of ts limits)))
   pub bytes : (i : ℕ) → get_or ts i 0 < 256
 
--- the gate (i, j) is the next one
-pub record Next (ls : List Line) (rs : List Row) (i j : ℕ) : Type 0 where
-  pub left_to_do : eqb (sum (distances ls rs)) 0 ≡ false
-  pub is : next_gate ls rs ≡ xor i j
-
 -- r is s with the gate (i, j), and h the table of r
 pub record Stepped (ts limits : List ℕ) (s r : State) (h : List ℕ) (i j : ℕ) : Type 0 where
   pub lines_are : base r ≡ base s ++ (made (base s) (xor i j) ∷ [])
@@ -235,6 +241,7 @@ pub record Grown (first : List Line) (rs : List Row) (s : State) : Type 0 where
   pub rights : s.right ≡ padded most_gates 0 (map (λ (g : Xor). g.b) (taken first rs))
   pub counted : s.count ≡ length (taken first rs)
   pub within : s.len < most_lines
+  pub shallow : Shallow s.depths
 
 -- ---- the front
 
@@ -276,8 +283,3 @@ pub record Begun (n : ℕ) (ar ts : List ℕ) (s : State) : Type 0 where
   pub lefts : s.left ≡ replicate most_gates 0
   pub rights : s.right ≡ replicate most_gates 0
   pub none : s.count ≡ 0
-
--- what is written of a plan: the stored bytes of its circuit, or why there are none
-pub record PlanWritten (p : Planned) (room : List ℕ) (r : Writing) (out : List ℕ) : Type 0 where
-  pub refused : (w : Refusal) → p.answer ≡ Refused w → (r ≡ NotWritten w) × (out ≡ room)
-  pub done : p.answer ≡ Done → Wrote p.circuit room r out

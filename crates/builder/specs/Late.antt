@@ -1,18 +1,17 @@
 -- The call with late signals: each input has an arrival depth, and each row a depth limit of its own ("4/14"). The call of 01 is the case of
 -- arrivals 0 and one limit for all rows.
-use Rattle.std.specs.Prelude.{Bool, not, ◌&&◌, ◌||◌, List, map, ◌≡◌, ℕ, ◌^◌, ltb, eqb, length}
-use Rattle.circuit.specs.declared.Answer.{Answer}
-use Rattle.circuit.specs.declared.Answer.TheVariants.{Done}
+use Rattle.std.specs.Prelude.{Result, Ok, Bool, not, ◌&&◌, ◌||◌, List, map, ◌≡◌, ℕ, ◌^◌, ltb, eqb, length}
+use Rattle.circuit.specs.declared.Circuit.{Circuit}
+use Rattle.circuit.specs.declared.Refusal.{Refusal}
 use Rattle.circuit.specs.declared.Refusal.TheVariants.{Shape, Length, Target, TooDeep, TooShallow}
 use Rattle.circuit.specs.Lines.{Listing, any_of}
-use Rattle.circuit.specs.Rules.{shaped, unless}
-use Rattle.stored.specs.declared.Writing.{Writing}
+use Rattle.circuit.specs.Structs.{held}
+use Rattle.circuit.specs.Rules.{Answer, done, shaped, and_then, unless}
 use Rattle.stored.specs.Stored.{stored}
-use Rattle.stored.specs.Writing.{into_room, room_after, writing_code}
+use Rattle.stored.specs.Writing.{Writing, into_room, room_after, writing_code}
 use Rattle.distance.specs.Base.{arriving, load}
-use Rattle.builder.specs.declared.Planned.{Planned}
 use Rattle.builder.specs.Rule.{Row, rows_of, greedy_circuit}
-use Rattle.builder.specs.Call.{bad_row, planned}
+use Rattle.builder.specs.Call.{bad_row}
 
 -- the circuit that is built: the base begins with the n inputs at their arrivals, and each row has its own limit
 unfoldable pub late_built : ℕ → List ℕ → List ℕ → List ℕ → Listing
@@ -38,11 +37,11 @@ late_refusal n ar ts ds =
     (unless (lists_fit n ar ts ds) Length
     (unless (not (any_of (map (bad_row n) ts))) Target
     (unless (not (any_deep ar || any_deep ds)) TooDeep
-    (unless (not (any_of (map (too_late n ar) (rows_of ts ds)))) TooShallow Done))))
+    (unless (not (any_of (map (too_late n ar) (rows_of ts ds)))) TooShallow done))))
 
--- what `plan_late` gives
-unfoldable pub late_plan_of : ℕ → List ℕ → List ℕ → List ℕ → Planned
-late_plan_of n ar ts ds = planned (late_refusal n ar ts ds) (late_built n ar ts ds)
+-- what `plan_late` gives: the circuit, or why none is built
+unfoldable pub late_plan_of : ℕ → List ℕ → List ℕ → List ℕ → Result Circuit Refusal
+late_plan_of n ar ts ds = and_then (late_refusal n ar ts ds) (Ok (held (late_built n ar ts ds)))
 
 -- how many bytes stand first in the room, or why none does: a room shorter than the stored answer (11) is found last
 unfoldable pub late_answer : ℕ → List ℕ → List ℕ → List ℕ → ℕ → Writing

@@ -1,21 +1,33 @@
 // What is refused before anything is built, in the order of the definition.
-ghost use Rattle.std.specs.Prelude.{map, ◌≡◌, ℕ, ◌^◌, ◌≤◌, ◌<◌, length, get_or};
+ghost use Rattle.std.specs.List.{list_any};
+ghost use Rattle.std.specs.Prelude.{map, ltb, ◌≡◌, ◌^◌, ◌≤◌, ◌<◌, length};
 ghost use Rattle.circuit.specs.Lines.{any_of};
-ghost use Rattle.distance.specs.Base.{Shallow, weight, load};
+ghost use Rattle.circuit.specs.Sizes.{most_inputs};
+ghost use Rattle.distance.specs.Base.{Shallow};
 ghost use Rattle.builder.specs.Rule.{rows_of};
 ghost use Rattle.builder.specs.Call.{bad_row};
-ghost use Rattle.builder.specs.Late.{any_deep, too_late, late_refusal};
+ghost use Rattle.builder.specs.Late.{too_late, late_refusal};
 ghost use Rattle.builder.specs.Kept.{Summed, Looking};
 
+use circuit::Refusal;
 use circuit::rules::is_shape;
-use circuit::{Answer, Refusal};
 use distance::table::cost;
+
+// The inputs: how many, and the arrival of each.
+#[derive(Clone, Copy)]
+pub(crate) struct Inputs<'a> {
+    pub(crate) n: usize,
+    pub(crate) arrivals: &'a [u8],
+    ghost few: { n ≤ most_inputs },
+    ghost each: { length arrivals.now ≡ n },
+    ghost early: { Shallow arrivals.now },
+}
 
 // What a row's inputs come to: how many they are, and their sum of 2^arrival.
 #[derive(Clone, Copy)]
 pub(crate) struct RowSums {
-    pub weight: usize,
-    pub load: u32,
+    pub(crate) weight: usize,
+    pub(crate) load: u32,
 }
 
 // 2 to the power k.
@@ -27,70 +39,47 @@ pub(crate) fn power(k: usize) -> usize
 }
 
 // A row's weight and load, from the highest input down.
-pub(crate) fn sums_of(n: usize, arrivals: &[u8], t: u8) -> RowSums
-    requires fact_1 { n ≤ 8 }
-    requires fact_2 { length arrivals.now ≡ n }
-    requires fact_3 { Shallow arrivals.now }
-    requires fact_4 { t < 2 ^ n }
-    ensures { Summed n arrivals.now t result.weight result.load }
+pub(crate) fn sums_of(inputs: &Inputs, t: u8) -> RowSums
+    requires { t < 2 ^ inputs.now.n }
+    ensures { Summed inputs.now.n inputs.now.arrivals.now t result.weight result.load }
 {
-    let mut ones: usize = 0;
-    let mut sum: u32 = 0;
-    let mut rest = t as usize;
-    let mut k = n;
-    while 0 < k {
-        k -= 1;
+    let mut weight: usize = 0;
+    let mut load: u32 = 0;
+    let mut rest = usize::from(t);
+    for k in (0..inputs.n).rev() {
         let top = power(k);
         if top <= rest {
-            let arrival = arrivals[k];
             rest -= top;
-            ones += 1;
-            sum += cost(arrival);
+            weight += 1;
+            load += cost(inputs.arrivals[k]);
         }
     }
-    RowSums {
-        weight: ones,
-        load: sum,
-    }
+    RowSums { weight, load }
 }
 
 // Whether a row is 0, or reaches 2^n.
 fn any_bad(n: usize, rows: &[u8]) -> bool
-    requires { n ≤ 8 }
-    ensures { result ≡ any_of (map (bad_row n) rows.now) }
+    requires { n ≤ most_inputs }
+    ensures { result ≡ list_any (bad_row n) rows.now }
 {
     let end = power(n);
-    for i in 0..rows.len() {
-        if rows[i] == 0 {
-            return true;
-        }
-        if end <= rows[i] as usize {
-            return true;
-        }
-    }
-    false
+    rows.iter().any(|t| *t == 0 || end <= usize::from(*t))
 }
 
 // Whether one of these depths is over 15.
 fn any_deep(depths: &[u8]) -> bool
-    ensures { result ≡ any_deep depths.now }
+    ensures { result ≡ list_any (ltb 15) depths.now }
 {
-    for i in 0..depths.len() {
-        if 15 < depths[i] {
-            return true;
-        }
-    }
-    false
+    depths.iter().any(|d| 15 < *d)
 }
 
 // Whether a row's load exceeds 2^limit.
-fn any_late(n: usize, arrivals: &[u8], rows: &[u8], limits: &[u8]) -> bool
-    requires { Looking n arrivals.now rows.now limits.now }
-    ensures { result ≡ any_of (map (too_late n arrivals.now) (rows_of rows.now limits.now)) }
+fn any_late(inputs: &Inputs, rows: &[u8], limits: &[u8]) -> bool
+    requires { Looking inputs.now.n inputs.now.arrivals.now rows.now limits.now }
+    ensures { result ≡ any_of (map (too_late inputs.now.n inputs.now.arrivals.now) (rows_of rows.now limits.now)) }
 {
-    for i in 0..rows.len() {
-        let sums = sums_of(n, arrivals, rows[i]);
-        if cost(limits[i]) < sums.load {
+    for (i, t) in rows.iter().enumerate() {
+        if cost(limits[i]) < sums_of(inputs, *t).load {
             return true;
         }
     }
@@ -98,29 +87,23 @@ fn any_late(n: usize, arrivals: &[u8], rows: &[u8], limits: &[u8]) -> bool
 }
 
 // The first refusal that applies, or that none does.
-pub(crate) fn look(n: usize, arrivals: &[u8], rows: &[u8], limits: &[u8]) -> Answer
+pub(crate) fn look(n: usize, arrivals: &[u8], rows: &[u8], limits: &[u8]) -> Result<(), Refusal>
     ensures { result ≡ late_refusal n arrivals.now rows.now limits.now }
 {
     if !is_shape(n, rows.len(), 0) {
-        return Answer::Refused(Refusal::Shape);
+        return Err(Refusal::Shape);
     }
-    if arrivals.len() != n {
-        return Answer::Refused(Refusal::Length);
-    }
-    if limits.len() != rows.len() {
-        return Answer::Refused(Refusal::Length);
+    if arrivals.len() != n || limits.len() != rows.len() {
+        return Err(Refusal::Length);
     }
     if any_bad(n, rows) {
-        return Answer::Refused(Refusal::Target);
+        return Err(Refusal::Target);
     }
-    if any_deep(arrivals) {
-        return Answer::Refused(Refusal::TooDeep);
+    if any_deep(arrivals) || any_deep(limits) {
+        return Err(Refusal::TooDeep);
     }
-    if any_deep(limits) {
-        return Answer::Refused(Refusal::TooDeep);
+    if any_late(&Inputs { n, arrivals }, rows, limits) {
+        return Err(Refusal::TooShallow);
     }
-    if any_late(n, arrivals, rows, limits) {
-        return Answer::Refused(Refusal::TooShallow);
-    }
-    Answer::Done
+    Ok(())
 }

@@ -8,11 +8,10 @@ use native.Mathlib.Nat.{mod-eq_of_lt}
 use native.Mathlib.Omega.{arith}
 use lib.ListN.{length, get_or, set, length-append, length-map, get_or-map, get_or-eq_default}
 use Rattle.circuit.specs.declared.Circuit.{Circuit}
-use Rattle.circuit.specs.declared.Answer.TheVariants.{Done}
 use Rattle.circuit.specs.Sizes.{most_outputs, most_gates, most_lines}
 use Rattle.circuit.specs.Lines.{Gate, Listing, gate, no_gate, listing, gate_at, with_more, padded}
 use Rattle.circuit.specs.Structs.{column, line_in, held, put_gate, gate_of, out_of, listed}
-use Rattle.circuit.specs.Rules.{listing_answer}
+use Rattle.circuit.specs.Rules.{done, listing_answer}
 use Rattle.circuit.proofs.RuleLaws.{gate_fits, out_below, CircuitFits, circuit_fits}
 use Rattle.circuit.proofs.LineLaws.{place}
 use Rattle.circuit.proofs.Padding.{pad_read, padded-put}
@@ -66,7 +65,7 @@ gate-held only c f k =
     λ i. gate (column_read (λ (q : Gate). q.kind) refl qs k i) (x i) (y i)
 
 -- and stands for it
-pub listed-held : (only : Bool) (c : Listing) → listing_answer only c ≡ Done → listed (held c) ≡ c
+pub listed-held : (only : Bool) (c : Listing) → listing_answer only c ≡ done → listed (held c) ≡ c
 listed-held only c h =
     let f = circuit_fits only c h in
     let g = upto_same (gate_of (held c)) (gate_at c) (length c.gates) (λ k l. gate-held only c f k) ∙ upto_all c.gates no_gate in

@@ -9,12 +9,11 @@ use native.Mathlib.Omega.{arith}
 use lib.Bits.{bit_and, bit_xor, and_comm, xor_lt, xor_step, xor_zero_r, differ}
 use lib.ListN.{length, get_or, take, get_or-eq_default}
 use lib.Pow.{pow_pos, pow-lt, pow_mono, shr-shr}
-use Rattle.circuit.specs.declared.Answer.TheVariants.{Done}
 use Rattle.circuit.specs.Sizes.{most_inputs, most_values, mask_width}
 use Rattle.circuit.specs.Gate.{Kind, bit, parity, row_value_on, truth, kind_of, nonlinear, operands}
 use Rattle.circuit.specs.Lines.{Gate, Listing, gate_at, lines, reads, upto, inputs_on, truth_step, values}
 use Rattle.circuit.specs.Rows.{Row, row, on_row, sum_of, mask_step, input_masks, masks, line_row}
-use Rattle.circuit.specs.Rules.{listing_answer}
+use Rattle.circuit.specs.Rules.{done, listing_answer}
 use Rattle.circuit.proofs.GateLaws.{bit-and, bit-lt, bit_above, differ-sum, differ-none, differ-lt}
 use Rattle.circuit.proofs.LineLaws.{snoc_all, place, lines_length, lines_one, lines_at}
 use Rattle.circuit.proofs.ParityLaws.{parity-lt, row-xor, row-none, row_input, differ_swap}
@@ -243,7 +242,7 @@ module _ (x n : ℕ) (gates : ℕ → Gate) (few : n ≤ mask_width) where
       (place i (n + j))
 
 -- in a circuit that may stand under a matrix every line is linear: its value on an input value is its row on it
-pub matrix_linear : (c : Listing) → listing_answer true c ≡ Done
+pub matrix_linear : (c : Listing) → listing_answer true c ≡ done
     → (x i : ℕ) → get_or (values x c.inputs (gate_at c) (length c.gates)) i 0 ≡ on_row (line_row c i) x
 unfolding on_row
 matrix_linear c ok x i =

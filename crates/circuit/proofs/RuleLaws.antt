@@ -7,11 +7,10 @@ use native.Mathlib.Omega.{arith}
 use lib.Dec.{leb, ltb, eqb}
 use lib.ListN.{length, get_or}
 use borrow.Author.Tests.{leb-true, ltb-true, eqb-true, lt-ltb}
-use Rattle.circuit.specs.declared.Answer.TheVariants.{Done}
 use Rattle.circuit.specs.declared.Refusal.TheVariants.{Shape, UnknownKind, Operand, NotLinear, NoLine}
 use Rattle.circuit.specs.Lines.{Gate, Listing, no_gate}
 use Rattle.circuit.specs.Gate.{kind_of, nonlinear, allowed}
-use Rattle.circuit.specs.Rules.{unless, and_then, shaped, all_of, operands_fit, gate_answer, out_answer, gates_answer, outs_answer, listing_answer}
+use Rattle.circuit.specs.Rules.{done, unless, and_then, shaped, all_of, operands_fit, gate_answer, out_answer, gates_answer, outs_answer, listing_answer}
 use Rattle.circuit.proofs.GateLaws.{allowed_linear}
 use Rattle.circuit.proofs.Operands.{reads_two, reads_one, unread_two, unread_one, by_operands}
 use Rattle.circuit.proofs.Shapes.{Shaped, shape_is, past, both, then_done}
@@ -54,7 +53,7 @@ operands_below line q e =
     let l = ltb-true q.left line b.0 in
     (l, omega (arith, eqb-true q.right 0 b.1))) e
 
-pub gate_fits : (only : Bool) (line : ℕ) (q : Gate) → gate_answer only line q ≡ Done → GateFits only line q
+pub gate_fits : (only : Bool) (line : ℕ) (q : Gate) → gate_answer only line q ≡ done → GateFits only line q
 unfolding gate_answer
 gate_fits only line q h =
     let p = past (leb q.kind 6) UnknownKind h in
@@ -66,9 +65,9 @@ gate_fits only line q h =
 -- ---- gates and outputs one by one, and all of them
 
 abbrev pub GatesDone : Bool → ℕ → List Gate → Type 0
-GatesDone only line qs = (j : ℕ) → j < length qs → gate_answer only (line + j) (get_or qs j no_gate) ≡ Done
+GatesDone only line qs = (j : ℕ) → j < length qs → gate_answer only (line + j) (get_or qs j no_gate) ≡ done
 
-pub gates_each : (only : Bool) (line : ℕ) (qs : List Gate) → gates_answer only line qs ≡ Done → GatesDone only line qs
+pub gates_each : (only : Bool) (line : ℕ) (qs : List Gate) → gates_answer only line qs ≡ done → GatesDone only line qs
 unfolding gates_answer
 gates_each only line [] h j l = absurd (omega arith)
 gates_each only line (q ∷ qs) h zero l =
@@ -79,37 +78,37 @@ gates_each only line (q ∷ qs) h (suc j) l =
     let r = gates_each only (suc line) qs (then_done (gate_answer only line q) (gates_answer only (suc line) qs) h).1 j (omega arith) in
     rw e r
 
-pub gates_all : (only : Bool) (line : ℕ) (qs : List Gate) → GatesDone only line qs → gates_answer only line qs ≡ Done
+pub gates_all : (only : Bool) (line : ℕ) (qs : List Gate) → GatesDone only line qs → gates_answer only line qs ≡ done
 unfolding gates_answer
 gates_all only line [] h = refl
 gates_all only line (q ∷ qs) h =
     let e : line + 0 ≡ line = omega arith in
-    let a : gate_answer only line q ≡ Done = subst (λ (x : ℕ). gate_answer only x q ≡ Done) e (h 0 (omega arith)) in
+    let a : gate_answer only line q ≡ done = subst (λ (x : ℕ). gate_answer only x q ≡ done) e (h 0 (omega arith)) in
     let r = gates_all only (suc line) qs (λ j l. let k = get_or qs j no_gate in let f : line + suc j ≡ suc line + j = omega arith in
-    subst (λ (x : ℕ). gate_answer only x k ≡ Done) f (h (suc j) (omega arith))) in
+    subst (λ (x : ℕ). gate_answer only x k ≡ done) f (h (suc j) (omega arith))) in
     ap₂ and_then a r
 
 abbrev pub OutsDone : ℕ → List ℕ → Type 0
-OutsDone count os = (j : ℕ) → j < length os → out_answer count (get_or os j 0) ≡ Done
+OutsDone count os = (j : ℕ) → j < length os → out_answer count (get_or os j 0) ≡ done
 
-pub outs_each : (count : ℕ) (os : List ℕ) → outs_answer count os ≡ Done → OutsDone count os
+pub outs_each : (count : ℕ) (os : List ℕ) → outs_answer count os ≡ done → OutsDone count os
 unfolding outs_answer
 outs_each count [] h j l = absurd (omega arith)
 outs_each count (o ∷ os) h zero l = (then_done (out_answer count o) (outs_answer count os) h).0
 outs_each count (o ∷ os) h (suc j) l = outs_each count os (then_done (out_answer count o) (outs_answer count os) h).1 j (omega arith)
 
-pub outs_all : (count : ℕ) (os : List ℕ) → OutsDone count os → outs_answer count os ≡ Done
+pub outs_all : (count : ℕ) (os : List ℕ) → OutsDone count os → outs_answer count os ≡ done
 unfolding outs_answer
 outs_all count [] h = refl
 outs_all count (o ∷ os) h = ap₂ and_then (h 0 (omega arith)) (outs_all count os (λ j l. h (suc j) (omega arith)))
 
-pub out_below : (count line : ℕ) → out_answer count line ≡ Done → line < count
+pub out_below : (count line : ℕ) → out_answer count line ≡ done → line < count
 unfolding out_answer
 out_below count line h = ltb-true line count (past (ltb line count) NoLine h).0
 
-pub out_there : (count line : ℕ) → line < count → out_answer count line ≡ Done
+pub out_there : (count line : ℕ) → line < count → out_answer count line ≡ done
 unfolding out_answer
-out_there count line h = ap (λ (t : Bool). unless t NoLine Done) (lt-ltb line count h)
+out_there count line h = ap (λ (t : Bool). unless t NoLine done) (lt-ltb line count h)
 
 -- ---- a circuit that is accepted
 
@@ -119,7 +118,7 @@ pub record CircuitFits (only : Bool) (c : Listing) : Type 0 where
   pub gates : GatesDone only c.inputs c.gates
   pub outs : OutsDone (c.inputs + length c.gates) c.outs
 
-pub circuit_fits : (only : Bool) (c : Listing) → listing_answer only c ≡ Done → CircuitFits only c
+pub circuit_fits : (only : Bool) (c : Listing) → listing_answer only c ≡ done → CircuitFits only c
 unfolding listing_answer
 circuit_fits only c h =
     let p = past (shaped c.inputs (length c.outs) (length c.gates)) Shape h in
@@ -131,7 +130,7 @@ circuit_fits only c h =
       outs = outs_each (c.inputs + length c.gates) c.outs q.1;
     }
 
-pub fits_circuit : (only : Bool) (c : Listing) → CircuitFits only c → listing_answer only c ≡ Done
+pub fits_circuit : (only : Bool) (c : Listing) → CircuitFits only c → listing_answer only c ≡ done
 unfolding listing_answer
 fits_circuit only c f =
     let g = gates_all only c.inputs c.gates f.gates in

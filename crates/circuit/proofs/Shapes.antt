@@ -6,10 +6,9 @@ use native.Mathlib.Omega.{arith}
 use borrow.Author.Tests.{leb-true, le-leb}
 use lib.Dec.{leb}
 use Rattle.circuit.specs.declared.Refusal.{Refusal}
-use Rattle.circuit.specs.declared.Answer.{Answer}
-use Rattle.circuit.specs.declared.Answer.TheVariants.{Done, Refused}
 use Rattle.circuit.specs.Sizes.{most_inputs, most_outputs, most_gates}
-use Rattle.circuit.specs.Rules.{shaped, and_then}
+use Rattle.std.specs.Prelude.{Ok, Err}
+use Rattle.circuit.specs.Rules.{Answer, done, shaped, and_then}
 
 -- numbers of a circuit, each in its range
 pub record Shaped (n m g : ℕ) : Type 0 where
@@ -23,13 +22,13 @@ pub both : (t : Bool) {a : Bool} → (t && a) ≡ true → (t ≡ true) × (a �
 both true h = (refl, h)
 both false h = absurd (true≢false (sym h))
 
-pub past : (t : Bool) {a : Answer} (w : Refusal) → cond t a (Refused w) ≡ Done → (t ≡ true) × (a ≡ Done)
+pub past : (t : Bool) {a : Answer} (w : Refusal) → cond t a (Err w) ≡ done → (t ≡ true) × (a ≡ done)
 past true w h = (refl, h)
 past false w h = let z : ◌≡◌ {A = ℕ} 0 1 = cc in absurd (omega arith)
 
-pub then_done : (a b : Answer) → and_then a b ≡ Done → (a ≡ Done) × (b ≡ Done)
-then_done Done b h = (refl, h)
-then_done (Refused w) b h = let z : ◌≡◌ {A = ℕ} 0 1 = cc in absurd (omega arith)
+pub then_done : (a b : Answer) → and_then a b ≡ done → (a ≡ done) × (b ≡ done)
+then_done (Ok u) b h = (refl, h)
+then_done (Err w) b h = let z : ◌≡◌ {A = ℕ} 0 1 = cc in absurd (omega arith)
 
 pub shape_is : (n m g : ℕ) → shaped n m g ≡ true → Shaped n m g
 unfolding shaped

@@ -1,19 +1,20 @@
 -- For each public function: two results that meet its promise are equal, the answer, the bench and each lent byte.
 --
 -- A promise that is an equation, `r ≡ x`, is under `determined`, whatever r is. These are:
---   circuit:  low16, low_byte, from_byte, no_circuit, gate::{eval_gate, second_read, and_weight, tally}, depth::{deeper, greatest_of, overall_of, depth_of},
---             rules::{is_shape, check_gate, check_output}, and, in the first half of their promise, wide, wide16, line_index and refusal_no
+--   circuit:  low16, low_byte, no_circuit, gate::{eval_gate, second_read, and_weight, tally}, depth::{deeper, greatest_of, overall_of, depth_of},
+--             rules::{is_shape, check_gate, check_output}, and, in the first half of their promise, line_index and refusal_no
 --   stored:   reader::read, restore::writing_code
 --   sweep:    sweep
 --   distance: distance, distance_no, refusal_no, table::cost
 --   builder:  plan, plan_late
---   formula:  text::{byte_at, span, scan}, names::{low_key, high_key, few_names, look_up}, emit::{gates_in, new_line}, and, in the first half of its
---             promise, text::sees
+--   formula:  text::{byte_at, span, scan}, keys::{low_key, high_key}, Names::{none, look_up}, Gates::none, and, in the first half of its promise,
+--             text::sees and Names::len
 --   sheet:    read_file
+--   drawing:  Refusal::from
 --   targets:  rules::{value_fits, target_fits}, wanted::{input_words, wanted_words}
---   bench:    opening::empty, edits::is_standing, storing::circuit_of
+--   bench:    opening::empty, Bench::is_standing, storing::circuit_of
 --   lent:     linked::allpawasi_distance
---   text:     find, skip, read_number, all_hex, at_most, is_free, same, and, in the first half of their promise, nibble and trim
+--   text:     find, skip, read_number, all_hex, is_free, same, and, in the first half of its promise, trim
 -- A promise that says more has its own lemma:
 --   | function                                                 | lemma                                             |
 --   |----------------------------------------------------------|---------------------------------------------------|
@@ -24,8 +25,9 @@
 --   | builder build_no, linked::allpawasi_build                | build_number_determined                           |
 --   | builder build_late                                       | late_determined                                   |
 --   | builder build_late_no, linked::allpawasi_build_late      | late_number_determined                            |
---   | formula emit::{clear, add_gate, add_not}                 | gates_determined                                  |
---   | formula emit::use_line                                   | use_line_determined                               |
+--   | formula Gates::{add_gate, add_not}                       | gates_determined                                  |
+--   | formula Gates::use_line                                  | use_line_determined                               |
+--   | formula Gates::fail                                      | fail_determined                                   |
 --   | formula levels::read_or                                  | formula_determined                                |
 --   | drawing equations                                        | equations_determined                              |
 --   | coded equations, linked::allpawasi_equations             | equations_code_determined                         |
@@ -41,19 +43,21 @@
 --   | hint hint_no, linked::allpawasi_hint                     | hint_number_determined                            |
 --   | text put, put_labelled, put_numbered, put_numbers,       |                                                   |
 --   |   put_hex, put_unhex                                     | put_determined                                    |
+--   | text nibble                                              | nibble_determined                                 |
 --   | text next_word, to_front                                 | next_word_determined, to_front_determined         |
 --   | listing put_counts, put_lines, put_refused, put_placed   | put_determined                                    |
 --   | script call_in                                           | call_in_determined                                |
 --   | talk answer_line                                         | answer_line_determined                            |
 -- Those of the bench are for answers given in any view: as they are (`as_they_are`) by bench, report and lent, as numbers (`as_numbers`) by coded and linked.
-use mathlib.Core.Path.{◌≡◌, sym, ap, ◌∙◌}
+use Rattle.std.specs.Prelude.{Option, Some, None, Err}
+use Rattle.std.specs.Option.{SomeIff}
+use mathlib.Core.Path.{◌≡◌, refl, sym, ap, ◌∙◌}
 use mathlib.Core.Bool.{Bool}
-use mathlib.Core.List.{List, []}
+use mathlib.Core.List.{List}
 use Prim.Native.Nat.{ℕ, ◌-◌, min}
 use lib.ListN.{length}
 use Rattle.circuit.specs.declared.Circuit.{Circuit}
-use Rattle.stored.specs.declared.Writing.{Writing}
-use Rattle.stored.specs.Writing.{Wrote, Restored}
+use Rattle.stored.specs.Writing.{Writing, Wrote, Restored}
 use Rattle.stored.proofs.Written as writing
 use Rattle.distance.specs.declared.FoundNumbers.{FoundNumbers}
 use Rattle.distance.specs.Table.{TakenIn}
@@ -62,13 +66,10 @@ use Rattle.builder.specs.Call.{Builds, BuildsNumbered}
 use Rattle.builder.specs.Late.{BuildsLate, BuildsLateNumbered}
 use Rattle.builder.proofs.Promise as building
 use Rattle.formula.specs.declared.Gates.{Gates}
-use Rattle.formula.specs.declared.Tip.{Tip}
-use Rattle.formula.specs.declared.Answer.{Answer}
-use Rattle.formula.specs.declared.Read.{Read}
-use Rattle.formula.specs.Emit.{gates_at, read_at, use_line}
+use Rattle.formula.specs.declared.Why.{Why}
+use Rattle.formula.specs.Emit.{Out, Read, read_at, failed, use_line}
 use Rattle.formula.proofs.Unique as reading
-use Rattle.drawing.specs.declared.Drawn.{Drawn}
-use Rattle.drawing.specs.Drawing.{EquationsPromise}
+use Rattle.drawing.specs.Drawing.{Drawn, EquationsPromise}
 use Rattle.targets.specs.Target.{Brought}
 use Rattle.bench.specs.declared.Bench.{Bench}
 use Rattle.bench.specs.State.{Limits, Present}
@@ -77,14 +78,13 @@ use Rattle.bench.specs.Calls.{View, OpenGiven, GateGiven, OutputGiven, EntryGive
 use Rattle.bench.specs.Run.{Call, present_after, Runs}
 use Rattle.bench.proofs.RunLaws.{after-calls}
 use Rattle.bench.proofs.Unique as benches
-use Rattle.hint.specs.declared.Hinted.{Hinted}
-use Rattle.hint.specs.Hint.{HintPromise, HintCode}
+use Rattle.hint.specs.Hint.{Hinted, HintPromise, HintCode}
 use Rattle.hint.proofs.Theorems as hints
 use Rattle.coded.specs.declared.ReadingNumbers.{ReadingNumbers}
 use Rattle.coded.specs.Coded.{EquationsCode}
 use Rattle.text.specs.declared.Word.{Word}
-use Rattle.text.specs.Places.{NextWord}
 use Rattle.text.specs.Putting.{PutFree, fronted}
+use Rattle.text.specs.Words.{NextIs}
 use Rattle.text.proofs.Unique as texts
 use Rattle.script.specs.declared.Call.{Call as LineCall}
 use Rattle.script.specs.Order.{Order}
@@ -126,18 +126,21 @@ pub late_number_determined : (n : ℕ) (ar ts ds room : List ℕ) (r s : ℕ) (o
     → BuildsLateNumbered n ar ts ds room s last → (r ≡ s) × (out ≡ last)
 late_number_determined = building.late_numbered_unique
 
--- gates in three rows that are lent, and what is known of them
-pub gates_determined : (rows last : List (List ℕ)) (r s : Tip) (x : Gates) → length rows ≡ 3 → length last ≡ 3 → gates_at rows r ≡ x → gates_at last s ≡ x
-    → (r ≡ s) × (rows ≡ last)
-gates_determined rows last r s x h k p q = let e = determined p q in (reading.tip_determined rows last r s e, reading.rows_determined rows last r s e h k)
+-- gates that are lent: what they are then, and the line that is answered
+pub gates_determined : (g h x : Gates) (r s line : ℕ) → (g ≡ x) × (r ≡ line) → (h ≡ x) × (s ≡ line) → (r ≡ s) × (g ≡ h)
+gates_determined g h x r s line p q = (determined p.1 q.1, determined p.0 q.0)
 
-pub use_line_determined : (t r s : Tip) (v : ℕ) → ((l : List (List ℕ)) → gates_at l r ≡ use_line (gates_at l t) v) → ((l : List (List ℕ)) → gates_at l s ≡ use_line (gates_at l t) v)
-    → r ≡ s
-use_line_determined t r s v p q = reading.tip_determined [] [] r s (determined (p []) (q []))
+pub use_line_determined : (t g h : Gates) (v : ℕ) → g ≡ use_line t v → h ≡ use_line t v → g ≡ h
+use_line_determined t g h v = determined
 
-pub formula_determined : (rows last : List (List ℕ)) (r s : Answer) (x : Read) → length rows ≡ 3 → length last ≡ 3 → read_at rows r ≡ x → read_at last s ≡ x
-    → (r ≡ s) × (rows ≡ last)
-formula_determined rows last r s x h k p q = reading.read_determined rows last r s (determined p q) h k
+pub formula_determined : (g h : Gates) (r s : Out) (x : Read) → read_at g r ≡ x → read_at h s ≡ x → (r ≡ s) × (g ≡ h)
+formula_determined g h r s x p q = reading.read_determined g h r s (determined p q)
+
+pub fail_determined : (g h : Gates) (r s why : Why) → read_at g (Err r) ≡ failed why → read_at h (Err s) ≡ failed why → (r ≡ s) × (g ≡ h)
+fail_determined g h r s why p q =
+    let e = formula_determined g h (Err r) (Err s) (failed why) p q in
+    let z : ◌≡◌ {A = Out} (Err r) (Err s) = e.0 in
+    (cc, e.1)
 
 pub equations_determined : (file room : List ℕ) (r s : Drawn) (out last : List ℕ) → EquationsPromise file room r out → EquationsPromise file room s last
     → (r ≡ s) × (out ≡ last)
@@ -153,8 +156,14 @@ pub put_determined : {before out last : List ℕ} {at size r s : ℕ} {bytes : L
     → (r ≡ s) × (out ≡ last)
 put_determined = texts.put_free_unique
 
-pub next_word_determined : (line : List ℕ) (at : ℕ) (r s : Word) → NextWord line at r.from r.to → NextWord line at s.from s.to → r ≡ s
-next_word_determined line at r s p q = let e = texts.next_unique p q in λ i. record { from = e.0 i; to = e.1 i }
+pub nibble_determined : (P : Type 0) (v : ℕ) (r s : Option ℕ) → SomeIff r P v → SomeIff s P v → r ≡ s
+nibble_determined P v (Some x) (Some y) p q = ap Some (determined p.1 q.1)
+nibble_determined P v (Some x) None p q = absurd (q p.0)
+nibble_determined P v None (Some y) p q = absurd (p q.0)
+nibble_determined P v None None p q = refl
+
+pub next_word_determined : (line : List ℕ) (at : ℕ) (r s : Option Word) → NextIs line at r → NextIs line at s → r ≡ s
+next_word_determined = texts.next_is_unique
 
 pub to_front_determined : (room : List ℕ) (from to r s : ℕ) (out last : List ℕ) → (r ≡ min to (length room) - from) × (out ≡ fronted room from r)
     → (s ≡ min to (length room) - from) × (last ≡ fronted room from s) → (r ≡ s) × (out ≡ last)

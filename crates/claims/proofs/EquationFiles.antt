@@ -1,5 +1,6 @@
 -- Equation files: reading one is answered, and a refusal carries the number of its cause, 15 or 16 with the place, 17, 1, 11, and leaves the lent room as it
 -- was; what is stored is the circuit that the file says, and opens but for its target. The causes in their order are `equations_table` in Tables.
+use Rattle.std.specs.Prelude.{Ok, Err}
 use mathlib.Core.Path.{◌≡◌, refl, sym, ap, ap₂, ◌∙◌, subst}
 use mathlib.Core.Bool.{true, false, cond}
 use mathlib.Core.Logic.{◌↔◌, ◌⊎◌, inl, inr, ⊎_elim}
@@ -10,20 +11,17 @@ use borrow.Author.Tests.{ne_eqb, le-ltb, ltb-false}
 use lib.Dec.{eqb, ltb}
 use lib.ListN.{length, take, drop}
 use lib.Seq.{take_at, drop_at}
-use Rattle.circuit.specs.declared.Answer.{Answer}
-use Rattle.circuit.specs.declared.Answer.TheVariants.{Done, Refused}
+use Rattle.circuit.specs.declared.Refusal.{Refusal}
 use Rattle.circuit.specs.Lines.{Listing, output_on}
 use Rattle.circuit.specs.Structs.{listed}
-use Rattle.circuit.specs.Rules.{refusal_no, answer_no}
+use Rattle.circuit.specs.Rules.{Answer, done, refusal_no, answer_no}
 use Rattle.stored.specs.Reading.{read_stored}
-use Rattle.stored.specs.Reading.Outcome.{found}
 use Rattle.grammar.specs.File.{Assignment, File, Good}
 use Rattle.grammar.proofs.Files.{file_unique}
 use Rattle.place.proofs.Place.{read_good}
 use Rattle.known.specs.Known.{NameFault}
-use Rattle.drawing.specs.declared.Drawn.{Drawn}
-use Rattle.drawing.specs.declared.Drawn.TheVariants.{Stored, BadText, BadName, NoOutputs, NotStored}
-use Rattle.drawing.specs.Drawing.{drawn_no, drawn_place, drawn_count, sketch_of, drawn_answer, drawn_bytes, room_drawn, EquationsPromise}
+use Rattle.drawing.specs.declared.Refusal.TheVariants.{BadText, BadName, NoOutputs, NotStored}
+use Rattle.drawing.specs.Drawing.{Drawn, drawn_no, drawn_place, drawn_count, drawn_circuit, drawn_answer, drawn_bytes, room_drawn, EquationsPromise}
 use Rattle.drawing.proofs.Rooms.{drawn-room, drawn_stored, drawn_refused}
 use Rattle.meaning.specs.Meaning.{file_says, operators_in, sets_output, MadeOf}
 use Rattle.meaning.proofs.Answers.{drawn, stored-says, stored-made, opens}
@@ -37,25 +35,22 @@ use Rattle.claims.proofs.Following.{opened_law}
 use Rattle.claims.proofs.FilesFollow.{equations_law, text_law, name_law, enough_law}
 use Rattle.claims.proofs.FirstDemand.{refusal_of, numbered, not-zero, not_of_files, stored-length}
 
-done_zero : (a : Answer) → answer_no a ≡ 0 → a ≡ Done
-done_zero Done e = refl
-done_zero (Refused w) e = absurd (not-zero w e)
+done_zero : (a : Answer) → answer_no a ≡ 0 → a ≡ done
+done_zero (Ok _) e = refl
+done_zero (Err w) e = absurd (not-zero w e)
 
 -- ---- The answer as it is
 
 drawn_left : (d : Drawn) (bytes room : List ℕ) → (drawn_no d ≡ 0 → ⊥) → room_drawn d bytes room ≡ room
-drawn_left (Stored k) bytes room some = absurd (some refl)
-drawn_left (BadText place) bytes room some = refl
-drawn_left (BadName place) bytes room some = refl
-drawn_left NoOutputs bytes room some = refl
-drawn_left (NotStored w) bytes room some = refl
+drawn_left (Ok k) bytes room some = absurd (some refl)
+drawn_left (Err w) bytes room some = refl
 
 drawn_among : (s : List ℕ) (room : ℕ) (d : Drawn) → drawn_answer s room ≡ d → Some (λ (n : ℕ). drawn_no d ≡ n) (0 ∷ 15 ∷ 16 ∷ 17 ∷ 1 ∷ 11 ∷ [])
-drawn_among s room (Stored k) e = inl refl
-drawn_among s room (BadText place) e = inr (inl refl)
-drawn_among s room (BadName place) e = inr (inr (inl refl))
-drawn_among s room NoOutputs e = inr (inr (inr (inl refl)))
-drawn_among s room (NotStored w) e =
+drawn_among s room (Ok k) e = inl refl
+drawn_among s room (Err (BadText place)) e = inr (inl refl)
+drawn_among s room (Err (BadName place)) e = inr (inr (inl refl))
+drawn_among s room (Err NoOutputs) e = inr (inr (inr (inl refl)))
+drawn_among s room (Err (NotStored w)) e =
     inr (inr (inr (inr (⊎_elim (λ p. inl (ap refusal_no p)) (λ p. inr (inl (ap refusal_no p.0))) (drawn_refused s room w e)))))
 
 module _ (s room : List ℕ) (r : Drawn) (out : List ℕ) (h : EquationsPromise s room r out) where
@@ -67,11 +62,11 @@ module _ (s room : List ℕ) (r : Drawn) (out : List ℕ) (h : EquationsPromise 
   equations_numbers = subst (λ (d : Drawn). GivenExactly (drawn_no d) (equations_table s (length room))) (sym h.answer) (equations_law s (length room))
 
   -- 15 is given with p exactly where p is the first byte that no good text has there, and no name before it is at fault;
-  pub equations_text_place : (p : ℕ) → (r ≡ BadText p) ↔ BadTextAt s p
+  pub equations_text_place : (p : ℕ) → (r ≡ Err (BadText p)) ↔ BadTextAt s p
   equations_text_place p = let w = text_law s (length room) p in (λ e. w.0 (sym h.answer ∙ e), λ c. h.answer ∙ w.1 c)
 
   -- 16 with q exactly where q is the last byte of the first name at fault, and all up to it begins a good text.
-  pub equations_name_place : (q : ℕ) → (r ≡ BadName q) ↔ NameFault s q
+  pub equations_name_place : (q : ℕ) → (r ≡ Err (BadName q)) ↔ NameFault s q
   equations_name_place q = let w = name_law s (length room) q in (λ e. w.0 (sym h.answer ∙ e), λ c. h.answer ∙ w.1 c)
 
   -- No number but these is given,
@@ -83,7 +78,7 @@ module _ (s room : List ℕ) (r : Drawn) (out : List ℕ) (h : EquationsPromise 
   equations_refused some = held ∙ drawn_left r (drawn_bytes s) room some
 
   -- and where the circuit is stored its bytes are first, as many as are counted, and the rest of the room is as it was.
-  pub equations_stored : (k : ℕ) → r ≡ Stored k → (k ≡ length (drawn_bytes s)) × ((take k out ≡ drawn_bytes s) × (drop k out ≡ drop k room))
+  pub equations_stored : (k : ℕ) → r ≡ Ok k → (k ≡ length (drawn_bytes s)) × ((take k out ≡ drawn_bytes s) × (drop k out ≡ drop k room))
   equations_stored k e =
       let bytes = drawn_bytes s in
       let size = (drawn_stored s (length room) k (sym h.answer ∙ e)).0 in
@@ -99,23 +94,23 @@ module _ (s room : List ℕ) (r : Drawn) (out : List ℕ) (h : EquationsPromise 
 
 abbrev drawn_of : ℕ → ℕ → ℕ → Drawn
 drawn_of number count place =
-    cond (eqb number 0) (Stored count)
-    (cond (eqb number 15) (BadText place)
-    (cond (eqb number 16) (BadName place)
-    (cond (eqb number 17) NoOutputs (NotStored (refusal_of number)))))
+    cond (eqb number 0) (Ok count)
+    (cond (eqb number 15) (Err (BadText place))
+    (cond (eqb number 16) (Err (BadName place))
+    (cond (eqb number 17) (Err NoOutputs) (Err (NotStored (refusal_of number))))))
 
 abbrev drawn_for : ReadingNumbers → Drawn
 drawn_for r = drawn_of r.refusal r.count r.place
 
 drawn-for : (d : Drawn) → drawn_for (drawn_code d) ≡ d
-drawn-for (Stored k) = refl
-drawn-for (BadText place) = refl
-drawn-for (BadName place) = refl
-drawn-for NoOutputs = refl
-drawn-for (NotStored w) =
+drawn-for (Ok k) = refl
+drawn-for (Err (BadText place)) = refl
+drawn-for (Err (BadName place)) = refl
+drawn-for (Err NoOutputs) = refl
+drawn-for (Err (NotStored w)) =
     let apart : (n : ℕ) → 13 < n → n < 18 → eqb (refusal_no w) n ≡ false = λ n h l. ne_eqb (refusal_no w) n (not_of_files w n h l) in
     rw (ne_eqb (refusal_no w) 0 (not-zero w), apart 15 (omega arith) (omega arith), apart 16 (omega arith) (omega arith), apart 17 (omega arith) (omega arith))
-    (ap NotStored (numbered w))
+    (ap (λ (v : Refusal). Err (NotStored v)) (numbered w))
 
 pub numbers_tell : (d e : Drawn) → drawn_code d ≡ drawn_code e → d ≡ e
 numbers_tell d e h = sym (drawn-for d) ∙ ap drawn_for h ∙ drawn-for e
@@ -131,27 +126,24 @@ pub equations_size : (s room : List ℕ) (r : Drawn) (out : List ℕ) → Equati
 unfolding drawn_bytes
 equations_size s room r out h w l file m outs =
     let size = length (drawn_bytes s) in
-    let c = listed (sketch_of s).circuit in
+    let c = listed (drawn_circuit s) in
     let d = drawn_answer s size in
-    let e : d ≡ Stored (drawn_count d) = sym (drawn-for d) ∙ ap (λ (n : ℕ). drawn_of n (drawn_count d) (drawn_place d)) (enough_law s (length room) (drawn_no r) w (ap drawn_no (sym h.answer))) in
+    let e : d ≡ Ok (drawn_count d) = sym (drawn-for d) ∙ ap (λ (n : ℕ). drawn_of n (drawn_count d) (drawn_place d)) (enough_law s (length room) (drawn_no r) w (ap drawn_no (sym h.answer))) in
     let made = stored-made s size (drawn_count d) e l file in
     stored-length c ∙ omega (arith, made.gates, same_below (length c.outs) m (λ j. sym (made.outs j) ∙ outs j))
 
 -- ---- The same in numbers: the refusal's or 0, the count, the place.
 
 drawn_counted : (d : Drawn) → (drawn_no d ≡ 0 → ⊥) → drawn_count d ≡ 0
-drawn_counted (Stored k) some = absurd (some refl)
-drawn_counted (BadText place) some = refl
-drawn_counted (BadName place) some = refl
-drawn_counted NoOutputs some = refl
-drawn_counted (NotStored w) some = refl
+drawn_counted (Ok k) some = absurd (some refl)
+drawn_counted (Err w) some = refl
 
 drawn_placed : (d : Drawn) → (drawn_no d ≡ 15 → ⊥) → (drawn_no d ≡ 16 → ⊥) → drawn_place d ≡ 0
-drawn_placed (Stored k) text name = refl
-drawn_placed (BadText place) text name = absurd (text refl)
-drawn_placed (BadName place) text name = absurd (name refl)
-drawn_placed NoOutputs text name = refl
-drawn_placed (NotStored w) text name = refl
+drawn_placed (Ok k) text name = refl
+drawn_placed (Err (BadText place)) text name = absurd (text refl)
+drawn_placed (Err (BadName place)) text name = absurd (name refl)
+drawn_placed (Err NoOutputs) text name = refl
+drawn_placed (Err (NotStored w)) text name = refl
 
 module _ (s room : List ℕ) (r : ReadingNumbers) (out : List ℕ) (h : EquationsCode s room r out) where
   -- the answer that the numbers stand for
@@ -191,11 +183,11 @@ module _ (s room : List ℕ) (r : ReadingNumbers) (out : List ℕ) (h : Equation
 
   -- 15 has the place beside it that is given exactly as above,
   pub equations_text_place_numbered : (p : ℕ) → ((r.refusal ≡ 15) × (r.place ≡ p)) ↔ BadTextAt s p
-  equations_text_place_numbered p = placed_numbered 15 p (BadText p) (text_law s (length room) p) refl refl refl
+  equations_text_place_numbered p = placed_numbered 15 p (Err (BadText p)) (text_law s (length room) p) refl refl refl
 
   -- 16 likewise,
   pub equations_name_place_numbered : (q : ℕ) → ((r.refusal ≡ 16) × (r.place ≡ q)) ↔ NameFault s q
-  equations_name_place_numbered q = placed_numbered 16 q (BadName q) (name_law s (length room) q) refl refl refl
+  equations_name_place_numbered q = placed_numbered 16 q (Err (BadName q)) (name_law s (length room) q) refl refl refl
 
   -- and no other number has one.
   pub equations_place : (r.refusal ≡ 15 → ⊥) → (r.refusal ≡ 16 → ⊥) → r.place ≡ 0
@@ -203,7 +195,7 @@ module _ (s room : List ℕ) (r : ReadingNumbers) (out : List ℕ) (h : Equation
       ap (λ (x : ReadingNumbers). x.place) h.answer ∙ drawn_placed answer (λ z. text (number_is ∙ z)) (λ z. name (number_is ∙ z))
 
   -- Where the number is 0 the circuit is stored, in as many bytes as are counted: what is said below of a promise is so of the numbers.
-  pub equations_stored_numbered : r.refusal ≡ 0 → EquationsPromise s room (Stored r.count) out
+  pub equations_stored_numbered : r.refusal ≡ 0 → EquationsPromise s room (Ok r.count) out
   equations_stored_numbered e = record { answer = sym (answer_is ∙ ap (λ (n : ℕ). drawn_of n r.count r.place) e); bytes = h.bytes }
 
 -- ---- What is stored: the circuit that the file says.
@@ -212,24 +204,24 @@ module _ (s room : List ℕ) (r : ReadingNumbers) (out : List ℕ) (h : Equation
 pub reading_unique : (s : List ℕ) (l m : List Assignment) → File s l → File s m → l ≡ m
 reading_unique = file_unique
 
-module _ (s room : List ℕ) (r : Drawn) (out : List ℕ) (h : EquationsPromise s room r out) (k : ℕ) (e : r ≡ Stored k) where
-  stored_so : drawn_answer s (length room) ≡ Stored k
+module _ (s room : List ℕ) (r : Drawn) (out : List ℕ) (h : EquationsPromise s room r out) (k : ℕ) (e : r ≡ Ok k) where
+  stored_so : drawn_answer s (length room) ≡ Ok k
   stored_so = sym h.answer ∙ e
 
   -- Where a circuit is stored the text has a reading,
   pub read_file : Good s
   read_file = let d = drawn s (length room) k stored_so in read_good s d.end d.read
 
-  bytes_read : read_stored false (take k out) ≡ found (listed (sketch_of s).circuit)
+  bytes_read : read_stored false (take k out) ≡ Ok (listed (drawn_circuit s))
   bytes_read = ap (read_stored false) (equations_stored s room r out h k e).1.0 ∙ opens s (length room) k stored_so
 
   -- and the bytes that are written first in the room read back as a circuit.
-  pub read_back : (c : Listing) × (read_stored false (take k out) ≡ found c)
-  read_back = (listed (sketch_of s).circuit, bytes_read)
+  pub read_back : (c : Listing) × (read_stored false (take k out) ≡ Ok c)
+  read_back = (listed (drawn_circuit s), bytes_read)
 
-  module _ (c : Listing) (back : read_stored false (take k out) ≡ found c) where
-    circuit_is : listed (sketch_of s).circuit ≡ c
-    circuit_is = let q : found (listed (sketch_of s).circuit) ≡ found c = sym bytes_read ∙ back in cc
+  module _ (c : Listing) (back : read_stored false (take k out) ≡ Ok c) where
+    circuit_is : listed (drawn_circuit s) ≡ c
+    circuit_is = let q : Ok (listed (drawn_circuit s)) ≡ Ok c = sym bytes_read ∙ back in cc
 
     -- On each input value each output of the circuit gives what the file says of it,
     pub read_says : (l : List Assignment) → File s l → (x j : ℕ) → j < length c.outs → output_on c x j ≡ file_says s l x j
@@ -244,5 +236,5 @@ module _ (s room : List ℕ) (r : Drawn) (out : List ℕ) (h : EquationsPromise 
     read_opens = opened_law (take k out) c back
 
     -- So a table that keeps its rule opens, and a matrix that does where no gate is nonlinear.
-    pub read_opened : (t : Brought) → (t.of_matrix ≡ true → SomeNonlinear c → ⊥) → (BrokenTarget c.inputs (length c.outs) t → ⊥) → open_answer (take k out) t ≡ Done
+    pub read_opened : (t : Brought) → (t.of_matrix ≡ true → SomeNonlinear c → ⊥) → (BrokenTarget c.inputs (length c.outs) t → ⊥) → open_answer (take k out) t ≡ done
     read_opened t linear fits = done_zero (open_answer (take k out) t) ((read_opens t 0).1 (inr (λ x. linear x.0 x.1, inr (fits, refl))))

@@ -1,4 +1,5 @@
 -- The answers to an equation file follow its table: the law that a number is given exactly when the table says so.
+use Rattle.std.specs.Prelude.{Result, Ok, Err}
 use mathlib.Core.Path.{◌≡◌, refl, sym, ap, ◌∙◌, subst}
 use mathlib.Core.Bool.{Bool, true, cond}
 use mathlib.Core.Logic.{◌↔◌, ◌⊎◌, inl, inr, ⊎_elim}
@@ -7,22 +8,16 @@ use Prim.Native.Nat.{ℕ, ◌<◌}
 use native.Mathlib.Omega.{arith}
 use lib.ListN.{length}
 use Rattle.circuit.specs.Structs.{listed}
-use Rattle.circuit.specs.Rules.{shaped}
-use Rattle.stored.specs.declared.Writing.{Writing}
-use Rattle.stored.specs.declared.Writing.TheVariants.{Written, NotWritten}
+use Rattle.circuit.specs.Rules.{answer_no, shaped}
 use Rattle.stored.specs.Stored.{stored}
-use Rattle.stored.specs.Writing.{writing_no, write_answer}
+use Rattle.stored.specs.Writing.{Writing, write_answer}
+use Rattle.formula.specs.declared.Why.{Why}
+use Rattle.formula.specs.declared.Why.TheVariants.{Text, Name}
 use Rattle.grammar.specs.File.{Assignment, File}
 use Rattle.sheet.specs.declared.Book.{Book}
-use Rattle.sheet.specs.declared.Step.{Step}
-use Rattle.sheet.specs.declared.Step.TheVariants.{On, No}
-use Rattle.sheet.specs.declared.Why.TheVariants.{Text, Name}
 use Rattle.sheet.specs.Sheet.{file_of}
-use Rattle.drawing.specs.declared.Sketch.{Sketch}
-use Rattle.drawing.specs.declared.Drawn.{Drawn}
-use Rattle.drawing.specs.declared.Drawn.TheVariants.{BadText, BadName}
-use Rattle.drawing.specs.declared.Verdict.TheVariants.{Sound, Gap}
-use Rattle.drawing.specs.Drawing.{drawn_no, drawn_place, withheld, whole_book, circuit_in, sketch_book, sketch_by, sketch_of, written_as, answer_by, drawn_answer, drawn_bytes}
+use Rattle.drawing.specs.declared.Refusal.TheVariants.{BadText, BadName, NoOutputs}
+use Rattle.drawing.specs.Drawing.{Drawn, drawn_no, drawn_place, circuit_or, whole_book, circuit_in, sketch_book, sketch_by, sketch_of, written_as, answer_by, drawn_answer, drawn_bytes}
 use Rattle.place.proofs.Place.{read_good, text_place}
 use Rattle.known.specs.Known.{NameFault}
 use Rattle.known.proofs.Words.{clash}
@@ -33,24 +28,24 @@ use Rattle.claims.proofs.Causes.{first, accepted, GivenExactly, hit, miss, past_
 use Rattle.claims.proofs.Tables.{OutOfRange, BadTextAt, NotWhole, TooLarge, OfReading, equations_table}
 use Rattle.claims.proofs.Following.{range_law, write_law}
 
-writing_drawn : (w : Writing) → writing_no w ≡ drawn_no (written_as w)
-writing_drawn (Written k) = refl
-writing_drawn (NotWritten w) = refl
+writing_drawn : (w : Writing) → answer_no w ≡ drawn_no (written_as w)
+writing_drawn (Ok k) = refl
+writing_drawn (Err w) = refl
 
 module _ (s : List ℕ) where
   abbrev b : Book
   b = (file_of s).book
 
   -- where the reader gives another answer the text is not bad, and no name is at fault
-  no_text : (x : Step) → (file_of s).step ≡ x → ((p : ℕ) → x ≡ No (Text p) → ⊥) → (p : ℕ) × BadTextAt s p → ⊥
+  no_text : (x : Result ℕ Why) → (file_of s).step ≡ x → ((p : ℕ) → x ≡ Err (Text p) → ⊥) → (p : ℕ) × BadTextAt s p → ⊥
   no_text x e none c = none c.0 (sym e ∙ text_exactly s c.0 c.1.0 c.1.1)
 
-  no_name : (x : Step) → (file_of s).step ≡ x → ((q : ℕ) → x ≡ No (Name q) → ⊥) → (q : ℕ) × NameFault s q → ⊥
+  no_name : (x : Result ℕ Why) → (file_of s).step ≡ x → ((q : ℕ) → x ≡ Err (Name q) → ⊥) → (q : ℕ) × NameFault s q → ⊥
   no_name x e none c = none c.0 (sym e ∙ name_exactly s c.0 c.1)
 
   -- ---- a file that was read
 
-  module _ (q : ℕ) (read : (file_of s).step ≡ On q) where
+  module _ (q : ℕ) (read : (file_of s).step ≡ Ok q) where
     -- its book is whole exactly where its reading is
     whole_fails : Fails (whole_book s b) (OfReading s (NotWhole s))
     whole_fails = record { holds = λ e. let g = read_good s q read in (g.reading, g.file, broken s g.reading g.file q read e); not_else = λ ok c. by c.0 c.1 ok c.2 }
@@ -82,15 +77,15 @@ module _ (s : List ℕ) where
     circuit_is : whole_book s b ≡ true → stored (listed (circuit_in s b)) ≡ drawn_bytes s
     unfolding drawn_bytes sketch_of sketch_book
     circuit_is ok =
-        ap (λ (t : Bool). stored (listed (cond t (record { circuit = circuit_in s b; verdict = Sound }) (withheld Gap)).circuit)) (sym ok)
-        ∙ ap (λ (x : Step). stored (listed (sketch_by s b x).circuit)) (sym read)
+        ap (λ (t : Bool). stored (listed (circuit_or (cond t (Ok (circuit_in s b)) (Err NoOutputs))))) (sym ok)
+        ∙ ap (λ (x : Result ℕ Why). stored (listed (circuit_or (sketch_by s b x)))) (sym read)
 
     -- storing is refused for 1, and 11
     written_law : (room : ℕ) → whole_book s b ≡ true
         → GivenExactly (drawn_no (written_as (write_answer (circuit_in s b) room))) (first 1 (OfReading s (TooLarge s)) (first 11 (room < length (drawn_bytes s)) accepted))
     written_law room ok =
         subst (λ (n : ℕ). GivenExactly n (first 1 (OfReading s (TooLarge s)) (first 11 (room < length (drawn_bytes s)) accepted))) (writing_drawn (write_answer (circuit_in s b) room))
-        (subst (λ (bytes : List ℕ). GivenExactly (writing_no (write_answer (circuit_in s b) room)) (first 1 (OfReading s (TooLarge s)) (first 11 (room < length bytes) accepted))) (circuit_is ok)
+        (subst (λ (bytes : List ℕ). GivenExactly (answer_no (write_answer (circuit_in s b) room)) (first 1 (OfReading s (TooLarge s)) (first 11 (room < length bytes) accepted))) (circuit_is ok)
         (write_law (circuit_in s b) room (shape_fails ok)))
 
   -- ---- any text
@@ -102,21 +97,21 @@ module _ (s : List ℕ) where
     where
       -- by what the book was found to be
       told : Bool → ℕ
-      told t = let k : Sketch = cond t (record { circuit = circuit_in s b; verdict = Sound }) (withheld Gap) in drawn_no (answer_by k.verdict k.circuit room)
+      told t = drawn_no (answer_by (cond t (Ok (circuit_in s b)) (Err NoOutputs)) room)
 
-      by : (x : Step) → (file_of s).step ≡ x → GivenExactly (drawn_no (answer_by (sketch_by s b x).verdict (sketch_by s b x).circuit room)) (equations_table s room)
-      by (No (Text p)) e = hit 15 _ (p, (text_place s p e, text_clean s p e))
-      by (No (Name q)) e =
-          miss 15 16 _ (no_text (No (Name q)) e (λ p k. let z : ◌≡◌ {A = ℕ} 0 1 = cc in omega arith)) (hit 16 _ (q, name_fault s q e))
-      by (On q) e =
-          miss 15 _ _ (no_text (On q) e (λ p k. let z : ◌≡◌ {A = ℕ} 0 1 = cc in omega arith))
-          (miss 16 _ _ (no_name (On q) e (λ p k. let z : ◌≡◌ {A = ℕ} 0 1 = cc in omega arith)) (chain_under told (whole_fails q e) (written_law q e room)))
+      by : (x : Result ℕ Why) → (file_of s).step ≡ x → GivenExactly (drawn_no (answer_by (sketch_by s b x) room)) (equations_table s room)
+      by (Err (Text p)) e = hit 15 _ (p, (text_place s p e, text_clean s p e))
+      by (Err (Name q)) e =
+          miss 15 16 _ (no_text (Err (Name q)) e (λ p k. let z : ◌≡◌ {A = ℕ} 0 1 = cc in omega arith)) (hit 16 _ (q, name_fault s q e))
+      by (Ok q) e =
+          miss 15 _ _ (no_text (Ok q) e (λ p k. let z : ◌≡◌ {A = ℕ} 0 1 = cc in omega arith))
+          (miss 16 _ _ (no_name (Ok q) e (λ p k. let z : ◌≡◌ {A = ℕ} 0 1 = cc in omega arith)) (chain_under told (whole_fails q e) (written_law q e room)))
 
   -- ---- where 15 and 16 are given
 
-  step_told : (x : Step) → (file_of s).step ≡ x → (room : ℕ) → drawn_answer s room ≡ answer_by (sketch_by s b x).verdict (sketch_by s b x).circuit room
+  step_told : (x : Result ℕ Why) → (file_of s).step ≡ x → (room : ℕ) → drawn_answer s room ≡ answer_by (sketch_by s b x) room
   unfolding drawn_answer sketch_of
-  step_told x e room = ap (λ (y : Step). answer_by (sketch_by s b y).verdict (sketch_by s b y).circuit room) e
+  step_told x e room = ap (λ (y : Result ℕ Why). answer_by (sketch_by s b y) room) e
 
   module _ (room : ℕ) where
     -- an answer that is given at each place with P, and where there is one, is given at p exactly when p has P
@@ -126,9 +121,9 @@ module _ (s : List ℕ) where
         (λ e. let c = some p e in subst P (sym (tells c.0) ∙ ap drawn_place (sym (given c.0 c.1) ∙ e) ∙ tells p) c.1, given p)
 
     -- 15 is given with p exactly where the text is bad at p
-    pub text_law : (p : ℕ) → (drawn_answer s room ≡ BadText p) ↔ BadTextAt s p
+    pub text_law : (p : ℕ) → (drawn_answer s room ≡ Err (BadText p)) ↔ BadTextAt s p
     text_law =
-        placed BadText (BadTextAt s) (λ p. refl) (λ p c. step_told (No (Text p)) (text_exactly s p c.0 c.1) room)
+        placed (λ p. Err (BadText p)) (BadTextAt s) (λ p. refl) (λ p c. step_told (Err (Text p)) (text_exactly s p c.0 c.1) room)
         (λ p e. own_cause (λ r.
         let a = past_cause (λ k. omega arith) r in
         let b = past_cause (λ k. omega arith) a.1 in
@@ -136,9 +131,9 @@ module _ (s : List ℕ) where
         omega (arith, (past_cause (λ k. omega arith) c.1).1)) ((equations_law room 15).0 (ap drawn_no e)))
 
     -- 16 with q exactly where the first name at fault ends with q
-    pub name_law : (q : ℕ) → (drawn_answer s room ≡ BadName q) ↔ NameFault s q
+    pub name_law : (q : ℕ) → (drawn_answer s room ≡ Err (BadName q)) ↔ NameFault s q
     name_law =
-        placed BadName (NameFault s) (λ q. refl) (λ q c. step_told (No (Name q)) (name_exactly s q c) room)
+        placed (λ q. Err (BadName q)) (NameFault s) (λ q. refl) (λ q c. step_told (Err (Name q)) (name_exactly s q c) room)
         (λ q e. own_cause (λ r.
         let a = past_cause (λ k. omega arith) r in
         let b = past_cause (λ k. omega arith) a.1 in

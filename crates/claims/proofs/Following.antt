@@ -1,4 +1,5 @@
 -- The answers of the definition follow the tables: each law says that a number is given exactly when the table says so.
+use Rattle.std.specs.Prelude.{Result, Ok, Err}
 use mathlib.Core.Path.{◌≡◌, refl, sym, ap, ◌∙◌, subst}
 use mathlib.Core.Bool.{Bool, true, false, true≢false, cond, not, ◌&&◌, ◌||◌}
 use mathlib.Core.Logic.{◌⊎◌, inl, inr}
@@ -13,29 +14,24 @@ use lib.Seq.{get_or-drop, drop-drop}
 use Rattle.circuit.specs.declared.Refusal.{Refusal}
 use Rattle.circuit.specs.declared.Circuit.{Circuit}
 use Rattle.circuit.specs.declared.Refusal.TheVariants.{Shape, Length, Mark, UnknownKind, Operand, NotLinear, Target as BadTarget, TooDeep, TooShallow, NoRoom, NotThere, Full}
-use Rattle.circuit.specs.declared.Answer.{Answer}
-use Rattle.circuit.specs.declared.Answer.TheVariants.{Done, Refused}
 use Rattle.circuit.specs.Gate.{kind_of, nonlinear, allowed}
 use Rattle.circuit.specs.Lines.{Gate, Listing, gate, any_of}
 use Rattle.circuit.specs.Structs.{listed}
 use Rattle.circuit.specs.Rows.{Row, row}
-use Rattle.circuit.specs.Rules.{refusal_no, answer_no, and_then, unless, shaped, operands_fit, gate_answer, out_answer, all_of}
+use Rattle.circuit.specs.Rules.{Answer, done, refusal_no, answer_no, and_then, unless, shaped, operands_fit, gate_answer, out_answer, all_of}
 use Rattle.circuit.specs.Sizes.{most_inputs, most_outputs, most_gates}
 use Rattle.circuit.proofs.GateLaws.{low_xor, middle-nonlinear, high_counts}
 use Rattle.circuit.proofs.Operands.{by_operands}
 use Rattle.circuit.proofs.RuleLaws.{two_fit, one_fits}
 use Rattle.circuit.proofs.Shapes.{past, then_done}
-use Rattle.stored.specs.declared.Writing.TheVariants.{Written, NotWritten}
 use Rattle.stored.specs.Stored.{SH, GT, records, gate_in, stored, listing_in, out_in}
-use Rattle.stored.specs.Reading.{is_mark, gate_record, out_record, gate_here, out_here, answers, body_answer, reading_answer, read_stored, outcome}
-use Rattle.stored.specs.Reading.Outcome.{found}
-use Rattle.stored.specs.Writing.{writing_no, into_room, write_answer}
+use Rattle.stored.specs.Reading.{is_mark, gate_record, out_record, gate_here, out_here, answers, body_answer, reading_answer, read_stored}
+use Rattle.stored.specs.Writing.{into_room, write_answer}
 use Rattle.stored.proofs.Records.{records_length}
+use Rattle.distance.specs.declared.Refusal.{Refusal as QueryRefusal}
 use Rattle.distance.specs.declared.Refusal.TheVariants.{Inputs, Lists, Mask, Depth}
-use Rattle.distance.specs.declared.Looked.{Looked}
-use Rattle.distance.specs.declared.Looked.TheVariants.{Sound as Looks}
 use Rattle.distance.specs.Base.{base_of, weight, load}
-use Rattle.distance.specs.Distance.{Gap, gates, never, distance}
+use Rattle.distance.specs.Distance.{distance}
 use Rattle.distance.specs.Query.{any_from, bad_lists, bad_mask, bad_depth, refuse, look_at, answered, answer_of, distance_no, where_sound}
 use Rattle.builder.specs.Rule.{rows_of}
 use Rattle.builder.specs.Call.{built, bad_row, too_heavy, refusal, build_answer}
@@ -44,7 +40,6 @@ use Rattle.targets.specs.Target.{Target, matrix, table, is_matrix, row_is_sound,
 use Rattle.targets.proofs.Fitting as fitting
 use Rattle.bench.specs.State.{Present, nothing, present}
 use Rattle.bench.specs.Calls.{open_answer, gate_edit_answer, output_edit_answer, entry_answer, entry_edit_answer, limits_answer, sweep_edit, append_answer, reported, store_answer}
-use Rattle.coded.specs.Coded.{reported_code}
 use Rattle.claims.proofs.Causes.{first, accepted, GivenExactly, Some, none_left, Tells, Fails, tells_as, fails_as, fails_where_not, not_fails, not_tells, tells_or, tells_lt, tells_le, tells_eq, fails_and, fails_lt, fails_le, tells_some, chain_under, chain, chain_on}
 use Rattle.claims.proofs.Tables.{OutOfRange, BadOperand, NonlinearKind, gate_table, BadRow, BrokenRow, BrokenBytes, BrokenTarget, records_table, gate_record_table, out_record_table, body_table, reading_table, open_table, opened_table, replace_table, append_table, point_table, entry_causes, change_table, open_only, store_table, build_table, LateRow, late_table, distance_table}
 
@@ -149,19 +144,24 @@ test : (w : Refusal) (a next : Answer) {t : Bool} {cause : Type 0} {rest : ℕ �
     → GivenExactly (answer_no (and_then (unless t w a) next)) (first (refusal_no w) cause rest)
 test w a next x g = chain (λ t. answer_no (and_then (unless t w a) next)) x g
 
-pub done_last : (a : Answer) → and_then a Done ≡ a
-done_last Done = refl
-done_last (Refused w) = refl
+pub done_last : (a : Answer) → and_then a done ≡ a
+done_last (Ok _) = refl
+done_last (Err w) = refl
+
+-- what is given where nothing is refused has no part in the number
+pub given_no : {A : Type 0} (a : Answer) (x : A) → answer_no (and_then a (Ok x)) ≡ answer_no a
+given_no (Ok _) x = refl
+given_no (Err w) x = refl
 
 then_then : (a b c : Answer) → and_then a (and_then b c) ≡ and_then (and_then a b) c
-then_then Done b c = refl
-then_then (Refused w) b c = refl
+then_then (Ok _) b c = refl
+then_then (Err w) b c = refl
 
 module _ {rest : ℕ → Type 0} (next : Answer) (g : GivenExactly (answer_no next) rest) where
   gate_law : (only : Bool) (line kind a b : ℕ) → GivenExactly (answer_no (and_then (gate_answer only line (gate kind a b)) next)) (gate_table only line kind a b rest)
   unfolding gate_answer
   gate_law only line kind a b =
-      let operands = unless (operands_fit line (gate kind a b)) Operand (unless (allowed only (kind_of kind)) NotLinear Done) in
+      let operands = unless (operands_fit line (gate kind a b)) Operand (unless (allowed only (kind_of kind)) NotLinear done) in
       chain_under (λ t. answer_no (and_then (unless t UnknownKind operands) next)) (fails_le kind 6)
       (λ e. test _ _ _ (operand_law line kind a b (leb-true kind 6 e)) (test _ _ _ (only_law only kind) g))
 
@@ -222,13 +222,13 @@ pub open_law : (s : List ℕ) (t : Brought) → GivenExactly (answer_no (open_an
 unfolding open_answer listing_in
 open_law s t =
     let m = records_length out_in 3 (get_or s 3 0) (drop (5 + 5 * get_or s 4 0) s) in
-    let last = chain (λ t. answer_no (unless t BadTarget Done)) (target_law (get_or s 2 0) (get_or s 3 0) t) none_left in
-    subst (λ (k : ℕ). GivenExactly (answer_no (and_then (reading_answer t.of_matrix s) (unless (brought_fits (get_or s 2 0) k t) BadTarget Done))) (open_table s t)) (sym m)
-    (read_law (unless (brought_fits (get_or s 2 0) (get_or s 3 0) t) BadTarget Done) last t.of_matrix s)
+    let last = chain (λ t. answer_no (unless t BadTarget done)) (target_law (get_or s 2 0) (get_or s 3 0) t) none_left in
+    subst (λ (k : ℕ). GivenExactly (answer_no (and_then (reading_answer t.of_matrix s) (unless (brought_fits (get_or s 2 0) k t) BadTarget done))) (open_table s t)) (sym m)
+    (read_law (unless (brought_fits (get_or s 2 0) (get_or s 3 0) t) BadTarget done) last t.of_matrix s)
 
 -- ---- bytes that read as a circuit: under a matrix they are refused for a nonlinear gate alone,
 
-gate_under : (line p q kind a b : ℕ) → gate_record false line p q kind a b ≡ Done → gate_record true line p q kind a b ≡ unless (linear_kind kind) NotLinear Done
+gate_under : (line p q kind a b : ℕ) → gate_record false line p q kind a b ≡ done → gate_record true line p q kind a b ≡ unless (linear_kind kind) NotLinear done
 unfolding gate_record gate_answer
 gate_under line p q kind a b h =
     let m = past (is_mark GT p q) Mark h in
@@ -240,8 +240,8 @@ gate_under line p q kind a b h =
 abbrev some_nonlinear : List Gate → Bool
 some_nonlinear qs = any_of (map (λ (q : Gate). not (linear_kind q.kind)) qs)
 
-gates_under : (line count : ℕ) (s : List ℕ) → answers (gate_here false) 5 line count s ≡ Done
-    → answers (gate_here true) 5 line count s ≡ unless (not (some_nonlinear (records gate_in 5 count s))) NotLinear Done
+gates_under : (line count : ℕ) (s : List ℕ) → answers (gate_here false) 5 line count s ≡ done
+    → answers (gate_here true) 5 line count s ≡ unless (not (some_nonlinear (records gate_in 5 count s))) NotLinear done
 unfolding answers records
 gates_under line zero s h = refl
 gates_under line (suc count) s h =
@@ -250,11 +250,11 @@ gates_under line (suc count) s h =
     let more = gates_under (suc line) count (drop 5 s) t.1 in
     (λ i. and_then (one i) (more i)) ∙ by (linear_kind (get_or s 2 0))
   where
-    by : (u : Bool) → let v = some_nonlinear (records gate_in 5 count (drop 5 s)) in and_then (unless u NotLinear Done) (unless (not v) NotLinear Done) ≡ unless (not (not u || v)) NotLinear Done
+    by : (u : Bool) → let v = some_nonlinear (records gate_in 5 count (drop 5 s)) in and_then (unless u NotLinear done) (unless (not v) NotLinear done) ≡ unless (not (not u || v)) NotLinear done
     by true = refl
     by false = refl
 
-read_under : (only : Bool) (s : List ℕ) → reading_answer false s ≡ Done → reading_answer only s ≡ unless (not (only && some_nonlinear (listing_in s).gates)) NotLinear Done
+read_under : (only : Bool) (s : List ℕ) → reading_answer false s ≡ done → reading_answer only s ≡ unless (not (only && some_nonlinear (listing_in s).gates)) NotLinear done
 unfolding reading_answer body_answer listing_in
 read_under false s h = h
 read_under true s h =
@@ -270,7 +270,7 @@ read_under true s h =
     rw (a.0, b.0, c.0, d.0) ((λ i. and_then (f i) (e.1 i)) ∙ done_last _)
 
 -- and no open refuses them but for its target
-pub opened_law : (s : List ℕ) (c : Listing) → read_stored false s ≡ found c → (t : Brought) → GivenExactly (answer_no (open_answer s t)) (opened_table c t)
+pub opened_law : (s : List ℕ) (c : Listing) → read_stored false s ≡ Ok c → (t : Brought) → GivenExactly (answer_no (open_answer s t)) (opened_table c t)
 unfolding open_answer
 opened_law s c h t = by (reading_answer false s) refl h
   where
@@ -278,16 +278,16 @@ opened_law s c h t = by (reading_answer false s) refl h
     other true qs = not_fails (tells_as (λ x. (refl, x)) (λ x. x.1) (tells_some (λ q. not_tells (linear_law q.kind)) qs))
     other false qs = record { holds = λ e. absurd (true≢false e); not_else = λ e x. true≢false (sym x.0) }
 
-    here : reading_answer false s ≡ Done → GivenExactly (answer_no (open_answer s t)) (opened_table (listing_in s) t)
+    here : reading_answer false s ≡ done → GivenExactly (answer_no (open_answer s t)) (opened_table (listing_in s) t)
     here e =
         let d = listing_in s in
-        let target = unless (brought_fits d.inputs (length d.outs) t) BadTarget Done in
+        let target = unless (brought_fits d.inputs (length d.outs) t) BadTarget done in
         subst (λ (a : Answer). GivenExactly (answer_no (and_then a target)) (opened_table d t)) (sym (read_under t.of_matrix s e))
-        (test NotLinear Done target (other t.of_matrix d.gates) (chain (λ u. answer_no (unless u BadTarget Done)) (target_law d.inputs (length d.outs) t) none_left))
+        (test NotLinear done target (other t.of_matrix d.gates) (chain (λ u. answer_no (unless u BadTarget done)) (target_law d.inputs (length d.outs) t) none_left))
 
-    by : (a : Answer) → reading_answer false s ≡ a → outcome a (listing_in s) ≡ found c → GivenExactly (answer_no (open_answer s t)) (opened_table c t)
-    by Done e h = let z : listing_in s ≡ c = cc in subst (λ (d : Listing). GivenExactly (answer_no (open_answer s t)) (opened_table d t)) z (here e)
-    by (Refused w) e h = let z : ◌≡◌ {A = ℕ} 0 1 = cc in absurd (omega arith)
+    by : (a : Answer) → reading_answer false s ≡ a → and_then a (Ok (listing_in s)) ≡ Ok c → GivenExactly (answer_no (open_answer s t)) (opened_table c t)
+    by (Ok _) e h = let z : listing_in s ≡ c = cc in subst (λ (d : Listing). GivenExactly (answer_no (open_answer s t)) (opened_table d t)) z (here e)
+    by (Err w) e h = let z : ◌≡◌ {A = ℕ} 0 1 = cc in absurd (omega arith)
 
 -- ---- the other calls
 
@@ -299,7 +299,7 @@ replace_law (present s) k kind a b =
     let line = s.circuit.inputs + k in
     chain (λ t. answer_no (unless t NotThere (gate_answer only line (gate kind a b)))) (fails_lt k (length s.circuit.gates))
     (subst (λ (x : Answer). GivenExactly (answer_no x) (gate_table only line kind a b accepted)) (done_last (gate_answer only line (gate kind a b)))
-    (gate_law Done none_left only line kind a b))
+    (gate_law done none_left only line kind a b))
 
 pub append_law : (p : Present) (kind a b : ℕ) → GivenExactly (answer_no (append_answer p kind a b)) (append_table p kind a b)
 unfolding append_answer
@@ -310,9 +310,9 @@ append_law (present s) kind a b =
     let line = s.circuit.inputs + g in
     chain (λ t. answer_no (unless t Full (gate_answer only line (gate kind a b)))) (fails_lt g most_gates)
     (subst (λ (x : Answer). GivenExactly (answer_no x) (gate_table only line kind a b accepted)) (done_last (gate_answer only line (gate kind a b)))
-    (gate_law Done none_left only line kind a b))
+    (gate_law done none_left only line kind a b))
 
-pub sweep_law : (p : Present) → GivenExactly (answer_no (sweep_edit p).answer) (open_only p)
+pub sweep_law : (p : Present) → GivenExactly (answer_no (sweep_edit p)) (open_only p)
 sweep_law nothing = λ n. (sym, sym)
 sweep_law (present s) = none_left
 
@@ -322,15 +322,15 @@ point_law nothing j line = λ n. (sym, sym)
 point_law (present s) j line =
     let lines = s.circuit.inputs + length s.circuit.gates in
     chain (λ t. answer_no (unless t NotThere (out_answer lines line))) (fails_lt j (length s.circuit.outs))
-    (subst (λ (x : Answer). GivenExactly (answer_no x) (first 6 (lines ≤ line) accepted)) (done_last (out_answer lines line)) (out_law Done none_left lines line))
+    (subst (λ (x : Answer). GivenExactly (answer_no x) (first 6 (lines ≤ line) accepted)) (done_last (out_answer lines line)) (out_law done none_left lines line))
 
 entries_law : (c : Listing) (t : Target) (i value constant : ℕ) → GivenExactly (answer_no (entry_answer c t i value constant)) (entry_causes c t i value constant)
 entries_law c (matrix rows) i value constant =
-    chain (λ t. answer_no (unless t NotThere (unless (row_is_sound c.inputs (row value constant)) BadTarget Done))) (fails_lt i (length c.outs))
-    (chain (λ t. answer_no (unless t BadTarget Done)) (row_law c.inputs (row value constant)) none_left)
+    chain (λ t. answer_no (unless t NotThere (unless (row_is_sound c.inputs (row value constant)) BadTarget done))) (fails_lt i (length c.outs))
+    (chain (λ t. answer_no (unless t BadTarget done)) (row_law c.inputs (row value constant)) none_left)
 entries_law c (table entries) i value constant =
-    chain (λ t. answer_no (unless t NotThere (unless (entry_fits (length c.outs) value && eqb constant 0) BadTarget Done))) (fails_lt i (2 ^ c.inputs))
-    (chain (λ t. answer_no (unless t BadTarget Done)) (fails_and (entry_law (length c.outs) value) (fails_where_not (tells_eq constant 0))) none_left)
+    chain (λ t. answer_no (unless t NotThere (unless (entry_fits (length c.outs) value && eqb constant 0) BadTarget done))) (fails_lt i (2 ^ c.inputs))
+    (chain (λ t. answer_no (unless t BadTarget done)) (fails_and (entry_law (length c.outs) value) (fails_where_not (tells_eq constant 0))) none_left)
 
 pub change_law : (p : Present) (i value constant : ℕ) → GivenExactly (answer_no (entry_edit_answer p i value constant)) (change_table p i value constant)
 unfolding entry_edit_answer
@@ -341,38 +341,38 @@ pub limits_law : (p : Present) → GivenExactly (answer_no (limits_answer p)) (o
 limits_law nothing = λ n. (sym, sym)
 limits_law (present s) = none_left
 
-pub report_law : (p : Present) → GivenExactly (reported_code (reported p)).refusal (open_only p)
+pub report_law : (p : Present) → GivenExactly (answer_no (reported p)) (open_only p)
 report_law nothing = λ n. (sym, sym)
 report_law (present s) = none_left
 
 -- the room is looked at last (11)
-pub room_law : (size room : ℕ) → GivenExactly (writing_no (cond (leb size room) (Written size) (NotWritten NoRoom))) (first 11 (room < size) accepted)
-room_law size room = chain (λ t. writing_no (cond t (Written size) (NotWritten NoRoom))) (fails_le size room) none_left
+pub room_law : (size room : ℕ) → GivenExactly (answer_no (cond (leb size room) (Ok size) (Err NoRoom))) (first 11 (room < size) accepted)
+room_law size room = chain (λ t. answer_no (cond t (Ok size) (Err NoRoom))) (fails_le size room) none_left
 
 -- storing a circuit: its shape first (1), whatever the cause of that is
 pub write_law : (c : Circuit) (room : ℕ) {cause : Type 0} → Fails (shaped c.n c.m c.g) cause
-    → GivenExactly (writing_no (write_answer c room)) (first 1 cause (first 11 (room < length (stored (listed c))) accepted))
+    → GivenExactly (answer_no (write_answer c room)) (first 1 cause (first 11 (room < length (stored (listed c))) accepted))
 unfolding write_answer
 write_law c room x =
     let size = length (stored (listed c)) in
-    chain (λ t. writing_no (cond t (cond (leb size room) (Written size) (NotWritten NoRoom)) (NotWritten Shape))) x (room_law size room)
+    chain (λ t. answer_no (cond t (cond (leb size room) (Ok size) (Err NoRoom)) (Err Shape))) x (room_law size room)
 
-pub store_law : (p : Present) (room : ℕ) → GivenExactly (writing_no (store_answer p room)) (store_table p room)
+pub store_law : (p : Present) (room : ℕ) → GivenExactly (answer_no (store_answer p room)) (store_table p room)
 unfolding store_answer
 store_law nothing room = λ n. (sym, sym)
 store_law (present s) room = room_law (length (stored s.circuit)) room
 
 -- an answer, and then the room
-pub room_then : (a : Answer) (size room : ℕ) → answer_no (and_then a (unless (leb size room) NoRoom Done)) ≡ writing_no (into_room a size room)
-room_then (Refused w) size room = refl
-room_then Done size room = by (leb size room)
+pub room_then : (a : Answer) (size room : ℕ) → answer_no (and_then a (unless (leb size room) NoRoom done)) ≡ answer_no (into_room a size room)
+room_then (Err w) size room = refl
+room_then (Ok _) size room = by (leb size room)
   where
-    by : (t : Bool) → answer_no (unless t NoRoom Done) ≡ writing_no (cond t (Written size) (NotWritten NoRoom))
+    by : (t : Bool) → answer_no (unless t NoRoom done) ≡ answer_no (cond t (Ok size) (Err NoRoom))
     by true = refl
     by false = refl
 
-pub room_last : (size room : ℕ) → GivenExactly (answer_no (unless (leb size room) NoRoom Done)) (first 11 (room < size) accepted)
-room_last size room = chain (λ t. answer_no (unless t NoRoom Done)) (fails_le size room) none_left
+pub room_last : (size room : ℕ) → GivenExactly (answer_no (unless (leb size room) NoRoom done)) (first 11 (room < size) accepted)
+room_last size room = chain (λ t. answer_no (unless t NoRoom done)) (fails_le size room) none_left
 
 pub row_tells : (n t : ℕ) → Tells (bad_row n t) (BadRow n t)
 row_tells n t = tells_or (tells_eq t 0) (tells_le (2 ^ n) t)
@@ -380,7 +380,7 @@ row_tells n t = tells_or (tells_eq t 0) (tells_le (2 ^ n) t)
 pub heavy_tells : (n D t : ℕ) → Tells (too_heavy n D t) (2 ^ D < weight n t)
 heavy_tells n D t = tells_lt (2 ^ D) (weight n t)
 
-pub build_law : (n : ℕ) (ts : List ℕ) (D room : ℕ) → GivenExactly (writing_no (build_answer n ts D room)) (build_table n ts D room)
+pub build_law : (n : ℕ) (ts : List ℕ) (D room : ℕ) → GivenExactly (answer_no (build_answer n ts D room)) (build_table n ts D room)
 unfolding build_answer refusal
 build_law n ts D room =
     let size = length (stored (built n ts D)) in
@@ -407,12 +407,12 @@ lists_law n ar ts ds = fails_and (fails_where_not (tells_eq (length ar) n)) (fai
 pub deep_tells : (ds : List ℕ) → Tells (any_deep ds) (Some (λ (d : ℕ). 15 < d) ds)
 deep_tells ds = tells_some (tells_lt 15) ds
 
-pub late_law : (n : ℕ) (ar ts ds : List ℕ) (room : ℕ) → GivenExactly (writing_no (late_answer n ar ts ds room)) (late_table n ar ts ds room)
+pub late_law : (n : ℕ) (ar ts ds : List ℕ) (room : ℕ) → GivenExactly (answer_no (late_answer n ar ts ds room)) (late_table n ar ts ds room)
 unfolding late_answer late_refusal
 late_law n ar ts ds room =
     let size = length (stored (late_built n ar ts ds)) in
-    let next = unless (leb size room) NoRoom Done in
-    let fourth = unless (not (any_of (map (too_late n ar) (rows_of ts ds)))) TooShallow Done in
+    let next = unless (leb size room) NoRoom done in
+    let fourth = unless (not (any_of (map (too_late n ar) (rows_of ts ds)))) TooShallow done in
     let third = unless (not (any_deep ar || any_deep ds)) TooDeep fourth in
     let second = unless (not (any_of (map (bad_row n) ts))) BadTarget third in
     subst (λ (no : ℕ). GivenExactly no (late_table n ar ts ds room)) (room_then (late_refusal n ar ts ds) size room)
@@ -430,16 +430,15 @@ pub distance_law : (n : ℕ) (ms ds : List ℕ) (t D : ℕ) → GivenExactly (di
 unfolding answer_of look_at
 distance_law n ms ds t D =
     let r = answered (distance n (base_of ms ds) t D) in
-    let ask : Looked → ℕ = λ x. distance_no (where_sound x r) in
+    let ask : Result (Unit {0}) QueryRefusal → ℕ = λ x. distance_no (where_sound x r) in
     let e = tells_or (any_law 16 ds) (tells_lt 15 D) in
     let c = tells_or (tells_or (any_law (2 ^ n) ms) (tells_eq t 0)) (tells_le (2 ^ n) t) in
     let b = tells_or (tells_or (not_tells (fails_where_not (tells_eq (length ms) (length ds)))) (tells_eq (length ms) 0)) (tells_lt 256 (length ms)) in
     let a = tells_or (tells_lt n 1) (tells_lt 8 n) in
-    chain_on (λ x. ask (refuse x Inputs (refuse (bad_lists ms ds) Lists (refuse (bad_mask n ms t) Mask (refuse (bad_depth ds D) Depth Looks))))) a
-    (chain_on (λ x. ask (refuse x Lists (refuse (bad_mask n ms t) Mask (refuse (bad_depth ds D) Depth Looks)))) b
-    (chain_on (λ x. ask (refuse x Mask (refuse (bad_depth ds D) Depth Looks))) c
-    (chain_on (λ x. ask (refuse x Depth Looks)) e
-    (subst (λ (no : ℕ). GivenExactly no accepted) (sym (none-refused (distance n (base_of ms ds) t D))) none_left))))
+    chain_on (λ x. ask (refuse x Inputs (refuse (bad_lists ms ds) Lists (refuse (bad_mask n ms t) Mask (refuse (bad_depth ds D) Depth (Ok tt)))))) a
+    (chain_on (λ x. ask (refuse x Lists (refuse (bad_mask n ms t) Mask (refuse (bad_depth ds D) Depth (Ok tt))))) b
+    (chain_on (λ x. ask (refuse x Mask (refuse (bad_depth ds D) Depth (Ok tt)))) c
+    (chain_on (λ x. ask (refuse x Depth (Ok tt))) e none_left)))
   where
     any_law : (b : ℕ) (xs : List ℕ) → Tells (any_from b xs) (Some (λ (x : ℕ). b ≤ x) xs)
     any_law b xs = subst (λ (t : Bool). Tells t (Some (λ (x : ℕ). b ≤ x) xs)) (same xs) (tells_some (tells_le b) xs)
@@ -447,7 +446,3 @@ distance_law n ms ds t D =
         same : (xs : List ℕ) → any_of (map (leb b) xs) ≡ any_from b xs
         same [] = refl
         same (x ∷ xs) = ap (λ (t : Bool). leb b x || t) (same xs)
-
-    none-refused : (x : Gap) → distance_no (answered x) ≡ 0
-    none-refused (gates g) = refl
-    none-refused never = refl

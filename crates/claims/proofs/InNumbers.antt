@@ -1,18 +1,16 @@
 -- Demand 3 where answers are numbers, as other languages are given them: each is the theorem by value, of the answer that the numbers stand for.
+use Rattle.std.specs.Prelude.{Ok, Err}
 use mathlib.Core.Path.{◌≡◌, refl, sym, ap, ◌∙◌, subst}
 use mathlib.Core.List.{List, ◌∷◌}
 use Prim.Native.Nat.{ℕ, ◌+◌, ◌/◌}
 use lib.ListN.{length}
-use Rattle.circuit.specs.declared.Answer.{Answer}
-use Rattle.circuit.specs.declared.Answer.TheVariants.{Done, Refused}
-use Rattle.circuit.specs.Rules.{answer_no}
+use Rattle.circuit.specs.Rules.{done, answer_no}
 use Rattle.sweep.specs.Sweep.{swept}
 use Rattle.targets.specs.Target.{Brought}
 use Rattle.bench.specs.declared.Bench.{Bench}
-use Rattle.bench.specs.declared.Edit.{Edit}
 use Rattle.bench.specs.State.{Limits, State, Present, nothing, present}
 use Rattle.bench.specs.Held.{empty_bench, bench_of, Stands}
-use Rattle.bench.specs.Calls.{open_answer, gate_edit, after_gate, readers_of, size_of, no_rework, output_edit_answer, after_output, entry_edit_answer, after_entry, limits_answer, after_limits, sweep_edit, after_sweep, append_edit, after_append, reported}
+use Rattle.bench.specs.Calls.{Edit, listed_in, open_answer, gate_edit, after_gate, readers_of, size_of, no_rework, output_edit_answer, after_output, entry_edit_answer, after_entry, limits_answer, after_limits, sweep_edit, after_sweep, append_edit, after_append, reported}
 use Rattle.bench.specs.Run.{Call, present_after, StepGiven, Runs}
 use Rattle.bench.specs.Run.Call.{opening}
 use Rattle.bench.proofs.Readers.{Affected, Lists}
@@ -32,7 +30,7 @@ pub a_run : {b : Bench} {calls : List Call} → MixedRuns empty_bench calls b �
 a_run = mixed_runs nothing empty_stands
 
 -- It may begin on any bench, whatever that holds, with an accepted opening.
-pub a_run_from_any_bench : {b last : Bench} {bytes : List ℕ} {t : Brought} {l : Limits} {calls : List Call} → open_answer bytes t ≡ Done
+pub a_run_from_any_bench : {b last : Bench} {bytes : List ℕ} {t : Brought} {l : Limits} {calls : List Call} → open_answer bytes t ≡ done
     → MixedRuns b (opening bytes t l ∷ calls) last → Runs empty_bench (opening bytes t l ∷ calls) last
 a_run_from_any_bench = mixed_anywhere
 
@@ -48,10 +46,10 @@ refusal_in (StepGiven.appended edit promise) = edit.refusal
 refusal_in (StepGiven.reported r promise) = r.refusal
 refusal_in (StepGiven.stored number out promise) = number / 65536
 
--- an answer whose number is 0 is an acceptance
-accepted : (a : Answer) → answer_no a ≡ 0 → a ≡ Done
-accepted Done z = refl
-accepted (Refused w) z = absurd (first.not-zero w z)
+-- an edit whose number is 0 is accepted, with the lines that it lists
+accepted : (e : Edit) → answer_no e ≡ 0 → e ≡ Ok (listed_in e)
+accepted (Ok r) z = refl
+accepted (Err w) z = absurd (first.not-zero w z)
 
 module _ {b : Bench} {calls : List Call} (run : Runs empty_bench calls b) where
   -- A refused call changes nothing: the bench is as it was; the room of a store too (`store_numbered` in FirstDemand).
@@ -87,8 +85,8 @@ module _ {b : Bench} {calls : List Call} (run : Runs empty_bench calls b) where
         let is = (h (present s) stands).0 in
         let same = by_value X (λ (p : Present). after_gate p k kind x y) edit next h in
         subst (λ (z : EditNumbers). Lists s.circuit k z.lines z.count × (z.count ≡ size_of (readers_of s.circuit k))) (sym is)
-        (third.lists_reworked run s here k kind x y (X (present s)) next same
-        (accepted (X (present s)).answer (sym (ap (λ (z : EditNumbers). z.refusal) is) ∙ e)))
+        (third.lists_reworked run s here k kind x y (X (present s)) next same (listed_in (X (present s)))
+        (accepted (X (present s)) (sym (ap (λ (z : EditNumbers). z.refusal) is) ∙ e)))
 
     -- What is held for all other lines is unchanged.
     pub others_unchanged : (k kind x y : ℕ) (edit : EditNumbers) (next : Bench) → GateCode b k kind x y edit next
@@ -111,7 +109,7 @@ module _ {b : Bench} {calls : List Call} (run : Runs empty_bench calls b) where
         let is = (h (present s) stands).0 in
         subst (λ (z : EditNumbers). ListsFrom (s.circuit.inputs + length s.circuit.gates) 1 z.lines z.count) (sym is)
         (sweep.append-listed run s here kind x y (X (present s)) next (by_value X (λ (p : Present). after_append p kind x y) edit next h)
-        (accepted (X (present s)).answer (sym (ap (λ (z : EditNumbers). z.refusal) is) ∙ e)))
+        (listed_in (X (present s))) (accepted (X (present s)) (sym (ap (λ (z : EditNumbers). z.refusal) is) ∙ e)))
 
     pub append_unchanged : (kind x y : ℕ) (edit : EditNumbers) (next : Bench) → AppendCode b kind x y edit next
         → (i : ℕ) → (i ≡ s.circuit.inputs + length s.circuit.gates → ⊥) → SameLine b next i
@@ -121,7 +119,7 @@ module _ {b : Bench} {calls : List Call} (run : Runs empty_bench calls b) where
 
     -- Other edits list none, and what is held for each line is unchanged.
     none-listed : (X : Present → Edit) (N : Present → Present) (edit : EditNumbers) (next : Bench)
-        → ((p : Present) → Stands b p → (edit ≡ edit_code (X p)) × (next ≡ bench_of (N p))) → NoneReworked b (X (present s)).count next → NoneReworked b edit.count next
+        → ((p : Present) → Stands b p → (edit ≡ edit_code (X p)) × (next ≡ bench_of (N p))) → NoneReworked b (listed_in (X (present s))).count next → NoneReworked b edit.count next
     none-listed X N edit next h none = (ap (λ (z : EditNumbers). z.count) (h (present s) stands).0 ∙ none.0, none.1)
 
     pub pointing_reworks_none : (j line : ℕ) (edit : EditNumbers) (next : Bench) → OutputCode b j line edit next → NoneReworked b edit.count next

@@ -2,6 +2,7 @@
 -- depth; the builder follows the rule, and refuses a sound matrix as too shallow exactly when no XOR program of that depth computes it.
 -- From request 6 on a matrix reads: matrix with constants where a circuit is checked; rows without constants where one is built, and a sound matrix is then
 -- one that no refusal ahead of 10 stops.
+use Rattle.std.specs.Prelude.{Option, None, Result, Ok, Err, Some as Just}
 use mathlib.Core.Path.{◌≡◌, refl, sym, ap, ap₂, ◌∙◌, subst}
 use mathlib.Core.Bool.{Bool, true, false, cond}
 use mathlib.Core.Logic.{◌↔◌, ◌⊎◌, inl, inr, ⊎_elim}
@@ -15,33 +16,27 @@ use lib.Dec.{leb, ltb, eqb}
 use lib.ListN.{length, get_or, take, drop, replicate, length-map, get_or-map}
 use lib.Pow.{pow_mono}
 use lib.Seq.{take_at, drop_at, take-append_seam}
+use Rattle.circuit.specs.declared.Refusal.{Refusal}
 use Rattle.circuit.specs.declared.Refusal.TheVariants.{TooShallow, NoRoom}
-use Rattle.circuit.specs.declared.Answer.{Answer}
-use Rattle.circuit.specs.declared.Answer.TheVariants.{Done, Refused}
 use Rattle.circuit.specs.Gate.{bit, row_value_on, Kind, kind_of, truth, word_of}
 use Rattle.circuit.specs.Lines.{Listing, gate_at, values, and_depth_step, and_depths, depth_of, and_depth_of, output_on, any_of, lines, listing}
 use Rattle.circuit.specs.Rows.{Row, row, no_row, on_row, masks_of, line_row}
-use Rattle.circuit.specs.Rules.{shaped, listing_answer}
+use Rattle.circuit.specs.Rules.{Answer, done, shaped, listing_answer}
 use Rattle.circuit.proofs.GateLaws.{bit-lt, bit-and, bit_above, differ-sum, bit_word}
 use Rattle.circuit.proofs.LineLaws.{greatest_read}
 use Rattle.circuit.proofs.RowLaws.{matrix_linear, masks_small, values_small, row_known}
 use Rattle.circuit.proofs.RuleLaws.{circuit_fits}
 use Rattle.circuit.proofs.Shapes.{both}
-use Rattle.stored.specs.declared.Writing.{Writing}
-use Rattle.stored.specs.declared.Writing.TheVariants.{Written, NotWritten}
 use Rattle.stored.specs.Stored.{stored}
 use Rattle.stored.specs.Reading.{read_stored}
-use Rattle.stored.specs.Reading.Outcome.{found}
-use Rattle.stored.specs.Writing.{room_after, into_room}
+use Rattle.stored.specs.Writing.{Writing, room_after, into_room}
 use Rattle.distance.specs.declared.Refusal.{Refusal as QueryRefusal}
 use Rattle.distance.specs.declared.Refusal.TheVariants.{Inputs, Lists, Mask, Depth}
-use Rattle.distance.specs.declared.Looked.{Looked}
-use Rattle.distance.specs.declared.Looked.TheVariants.{Sound as Looks, Unsound}
 use Rattle.distance.specs.declared.Found.{Found}
-use Rattle.distance.specs.declared.Answer.TheVariants.{Gates, Never}
 use Rattle.distance.specs.Base.{Line, none, Xor, base_of, inputs, arriving, run, weight, Small, Program, Fewest, SetOf, Smallest}
 use Rattle.distance.specs.Distance.{gates, never, distance, numbers, first_set, FirstSmallest}
-use Rattle.distance.specs.Query.{look_at, answered, answer_of, lines_of, found_of, distance_no, query_refusal_no, where_sound}
+use Rattle.distance.specs.Query.{look_at, answered, answer_of, lines_of, found, found_of, with_lines, distance_no, query_refusal_no, where_sound}
+use Rattle.distance.proofs.Sound.{found_some, found_never}
 use Rattle.distance.proofs.Theorems as distances
 use Rattle.builder.specs.Rule.{Row as BuilderRow, first_pair, rows_of, lowest, sum, taken, xor_gate, greedy_circuit}
 use Rattle.builder.specs.Call.{within, built, bad_row, refusal, build_answer, Builds}
@@ -58,8 +53,7 @@ use Rattle.targets.proofs.Fitting.{all_there}
 use Rattle.bench.specs.declared.Bench.{Bench}
 use Rattle.bench.specs.declared.Place.{Place}
 use Rattle.bench.specs.declared.Verdict.TheVariants.{Wrong, Pass}
-use Rattle.bench.specs.declared.Reported.{Reported}
-use Rattle.bench.specs.declared.Reported.TheVariants.{Given}
+use Rattle.bench.specs.declared.Report.{Report}
 use Rattle.bench.specs.State.{Limits, State, state, present, report_of, Sound, SoundPresent, LimitsFit}
 use Rattle.bench.specs.Held.{empty_bench}
 use Rattle.bench.specs.Calls.{open_answer, reported, ReportPromise}
@@ -146,7 +140,7 @@ module _ (s : State) where
   wrong_exactly p = (wrong_first s p, first_wrong s p)
 
   -- That is the report which is given, after any calls, where this is present.
-  pub report_given : {b : Bench} {calls : List Call} → Runs empty_bench calls b → present_after calls ≡ present s → (r : Reported) → ReportPromise b r → r ≡ Given (report_of s)
+  pub report_given : {b : Bench} {calls : List Call} → Runs empty_bench calls b → present_after calls ≡ present s → (r : Result Report Refusal) → ReportPromise b r → r ≡ Ok (report_of s)
   report_given run e r h = report_after_calls run h ∙ ap reported e
 
 -- ---- Under a matrix every line is linear.
@@ -219,21 +213,19 @@ module _ (n : ℕ) (ls : List Line) (t D : ℕ) (small : Small n ls) (some : t �
   pub distance_no-set : (distance n ls t D ≡ never) ↔ ((k : ℕ) → SetOf ls k t (2 ^ D) → ⊥)
   distance_no-set = distances.none_is_no_set n ls t D small some
 
--- the lines that stand beside an answer
+-- the lines that stand beside a distance
 abbrev pub lines_beside : Found → List ℕ
-lines_beside r = take r.count r.lines
+lines_beside f = take f.count f.lines
+
+-- a query answers a distance of g gates
+abbrev pub Gives : Result (Option Found) QueryRefusal → ℕ → Type 0
+Gives r g = (f : Found) × (r ≡ Ok (Just f)) × (f.gates ≡ g)
 
 -- What a query answers, where it is not refused.
-module _ (n : ℕ) (ms ds : List ℕ) (t D : ℕ) (r : Found) (meets : r ≡ found_of n ms ds t D) (fine : distance_no r.answer ≡ 0) where
-  answers : r.answer ≡ answer_of n ms ds t D
-  answers = ap (λ (f : Found). f.answer) meets
-
-  beside : lines_beside r ≡ lines_of n ms ds t D
-  beside = ap lines_beside meets ∙ take-append_seam (lines_of n ms ds t D) (replicate (8 - length (lines_of n ms ds t D)) 0)
-
-  looks : look_at n ms ds t D ≡ Looks
+module _ (n : ℕ) (ms ds : List ℕ) (t D : ℕ) (r : Result (Option Found) QueryRefusal) (meets : r ≡ found_of n ms ds t D) (fine : distance_no r ≡ 0) where
+  looks : look_at n ms ds t D ≡ Ok tt
   unfolding answer_of
-  looks = by (look_at n ms ds t D) (sym (ap distance_no answers) ∙ fine)
+  looks = by (look_at n ms ds t D) (sym (ap distance_no meets) ∙ fine)
     where
       numbered : (w : QueryRefusal) → query_refusal_no w ≡ 0 → ⊥
       numbered Inputs e = omega arith
@@ -241,33 +233,50 @@ module _ (n : ℕ) (ms ds : List ℕ) (t D : ℕ) (r : Found) (meets : r ≡ fou
       numbered Mask e = omega arith
       numbered Depth e = omega arith
 
-      by : (x : Looked) → distance_no (where_sound x (answered (distance n (base_of ms ds) t D))) ≡ 0 → x ≡ Looks
-      by Looks e = refl
-      by (Unsound w) e = absurd (numbered w e)
+      by : (x : Result (Unit {0}) QueryRefusal) → distance_no (found (where_sound x (answered (distance n (base_of ms ds) t D))) (lines_of n ms ds t D)) ≡ 0 → x ≡ Ok tt
+      by (Ok u) e = refl
+      by (Err w) e = absurd (numbered w e)
 
-  pub query_fewest : (g : ℕ) → (r.answer ≡ Gates g) ↔ Fewest (base_of ms ds) t D g
-  query_fewest g = let q = distances.query_gates n ms ds t D looks g in (λ e. q.0 (sym answers ∙ e), λ f. answers ∙ q.1 f)
+  -- what is found where the answer is this
+  with_answer : {x : Option ℕ} → answer_of n ms ds t D ≡ Ok x → r ≡ Ok (with_lines x (lines_of n ms ds t D))
+  with_answer e = meets ∙ ap (λ (a : Result (Option ℕ) QueryRefusal). found a (lines_of n ms ds t D)) e
 
-  pub query_none : (r.answer ≡ Never) ↔ ((h : ℕ) → Program (base_of ms ds) h t D → ⊥)
-  query_none = let q = distances.query_never n ms ds t D looks in (λ e. q.0 (sym answers ∙ e), λ f. answers ∙ q.1 f)
+  module _ (f : Found) (e : r ≡ Ok (Just f)) where
+    answers : answer_of n ms ds t D ≡ Ok (Just f.gates)
+    answers = (found_some n ms ds t D f (sym meets ∙ e)).0
 
-  -- The lines beside a distance are a set that makes the target within the depth, one more than the gates; no set is smaller, and no other of its
-  -- size comes before it.
-  pub query_lines : (g : ℕ) → r.answer ≡ Gates g → FirstSmallest (base_of ms ds) t (2 ^ D) (suc g) (lines_beside r)
-  query_lines g e = subst (FirstSmallest (base_of ms ds) t (2 ^ D) (suc g)) (sym beside) (distances.query_lines n ms ds t D looks g (sym answers ∙ e))
+    beside : lines_beside f ≡ lines_of n ms ds t D
+    beside =
+        let q = found_some n ms ds t D f (sym meets ∙ e) in
+        ap₂ (λ (k : ℕ) (xs : List ℕ). take k xs) q.2 q.1 ∙ take-append_seam (lines_of n ms ds t D) (replicate (8 - length (lines_of n ms ds t D)) 0)
 
-  -- By themselves they make the target within the depth, by as many gates.
-  pub query_lines_make : (g : ℕ) → r.answer ≡ Gates g → Program (map (λ (i : ℕ). get_or (base_of ms ds) i none) (lines_beside r)) g t D
-  query_lines_make g e =
-      subst (λ (xs : List ℕ). Program (map (λ (i : ℕ). get_or (base_of ms ds) i none) xs) g t D) (sym beside) (distances.query_lines_make n ms ds t D looks g (sym answers ∙ e))
+  pub query_fewest : (g : ℕ) → Gives r g ↔ Fewest (base_of ms ds) t D g
+  query_fewest g =
+      let q = distances.query_gates n ms ds t D looks g in
+      (λ x. q.0 (answers x.0 x.1 ∙ ap (λ (k : ℕ). Ok (Just k)) x.2), λ f. let e = with_answer (q.1 f) in (_, e, refl))
 
-  -- So they are those: there is one such list of numbers.
-  pub query_lines_only : (g : ℕ) → r.answer ≡ Gates g → (xs : List ℕ) → FirstSmallest (base_of ms ds) t (2 ^ D) (suc g) xs → xs ≡ lines_beside r
-  query_lines_only g e xs f = distances.query_lines_only n ms ds t D g xs (lines_beside r) f (query_lines g e)
+  pub query_none : (r ≡ Ok None) ↔ ((h : ℕ) → Program (base_of ms ds) h t D → ⊥)
+  query_none = let q = distances.query_never n ms ds t D looks in (λ e. q.0 (found_never n ms ds t D (sym meets ∙ e)), λ f. with_answer (q.1 f))
+
+  module _ (f : Found) (e : r ≡ Ok (Just f)) where
+    -- The lines beside a distance are a set that makes the target within the depth, one more than the gates; no set is smaller, and no other of its
+    -- size comes before it.
+    pub query_lines : FirstSmallest (base_of ms ds) t (2 ^ D) (suc f.gates) (lines_beside f)
+    query_lines = subst (FirstSmallest (base_of ms ds) t (2 ^ D) (suc f.gates)) (sym (beside f e)) (distances.query_lines n ms ds t D looks f.gates (answers f e))
+
+    -- By themselves they make the target within the depth, by as many gates.
+    pub query_lines_make : Program (map (λ (i : ℕ). get_or (base_of ms ds) i none) (lines_beside f)) f.gates t D
+    query_lines_make =
+        subst (λ (xs : List ℕ). Program (map (λ (i : ℕ). get_or (base_of ms ds) i none) xs) f.gates t D) (sym (beside f e))
+        (distances.query_lines_make n ms ds t D looks f.gates (answers f e))
+
+    -- So they are those: there is one such list of numbers.
+    pub query_lines_only : (xs : List ℕ) → FirstSmallest (base_of ms ds) t (2 ^ D) (suc f.gates) xs → xs ≡ lines_beside f
+    query_lines_only xs s = distances.query_lines_only n ms ds t D f.gates xs (lines_beside f) s query_lines
 
   -- Where there is no distance there are none.
-  pub query_no_lines : r.answer ≡ Never → lines_beside r ≡ []
-  query_no_lines e = beside ∙ distances.query_no_lines n ms ds t D looks (sym answers ∙ e)
+  pub query_no_lines : r ≡ Ok None → lines_of n ms ds t D ≡ []
+  query_no_lines e = distances.query_no_lines n ms ds t D looks (found_never n ms ds t D (sym meets ∙ e))
 
 -- ---- The first pair that the rule takes for a row one gate away is the query's set of two lines: the same numbers.
 pub first_pair_is_set : (ls : List Line) (r : BuilderRow) → distance 8 ls r.mask r.limit ≡ gates 1
@@ -319,7 +328,7 @@ module _ (n : ℕ) (ar ts ds : List ℕ) where
           level [] = refl
           level (l ∷ ls) = ap (λ (xs : List ℕ). 0 ∷ xs) (level ls)
 
-  pub late_right : late_refusal n ar ts ds ≡ Done → LateRight n ar ts ds (late_built n ar ts ds)
+  pub late_right : late_refusal n ar ts ds ≡ done → LateRight n ar ts ds (late_built n ar ts ds)
   late_right ok =
       record {
         inputs_are = late_inputs n ar ts ds;
@@ -368,7 +377,7 @@ module _ (n : ℕ) (ts : List ℕ) (D : ℕ) where
   unfolding built greedy_circuit
   follows_rule = refl
 
-  pub built_right : refusal n ts D ≡ Done → BuiltRight n ts D (built n ts D)
+  pub built_right : refusal n ts D ≡ done → BuiltRight n ts D (built n ts D)
   built_right ok =
       let e = building.as_late n ts D in
       let r = subst (LateRight n (at_once n) ts (alike D ts)) (sym e.1) (late_right n (at_once n) ts (alike D ts) (sym e.0 ∙ ok)) in
@@ -398,18 +407,18 @@ module _ (a : Answer) (c : Listing) (room : List ℕ) where
   abbrev bytes : List ℕ
   bytes = stored c
 
-  module _ (k : ℕ) (out : List ℕ) (h : Put a c room (Written k) out) where
-    nothing_refused : a ≡ Done
+  module _ (k : ℕ) (out : List ℕ) (h : Put a c room (Ok k) out) where
+    nothing_refused : a ≡ done
     nothing_refused = by a h.answer
       where
-        by : (a : Answer) → Written k ≡ into_room a (length bytes) (length room) → a ≡ Done
-        by Done e = refl
-        by (Refused w) e = let z : ◌≡◌ {A = ℕ} 0 1 = cc in absurd (omega arith)
+        by : (a : Answer) → Ok k ≡ into_room a (length bytes) (length room) → a ≡ done
+        by (Ok _) e = refl
+        by (Err w) e = let z : ◌≡◌ {A = ℕ} 0 1 = cc in absurd (omega arith)
 
     size_is : length bytes ≡ k
     size_is = by (leb (length bytes) (length room)) (h.answer ∙ ap (λ (a : Answer). into_room a (length bytes) (length room)) nothing_refused)
       where
-        by : (t : Bool) → Written k ≡ cond t (Written (length bytes)) (NotWritten NoRoom) → length bytes ≡ k
+        by : (t : Bool) → Ok k ≡ cond t (Ok (length bytes)) (Err NoRoom) → length bytes ≡ k
         by true e = cc
         by false e = let z : ◌≡◌ {A = ℕ} 0 1 = cc in absurd (omega arith)
 
@@ -423,33 +432,33 @@ module _ (a : Answer) (c : Listing) (room : List ℕ) where
     )
 
   -- 10 is answered where it is the answer ahead of the room
-  answered_so : (r : Writing) (out : List ℕ) → Put a c room r out → (r ≡ NotWritten TooShallow) ↔ (a ≡ Refused TooShallow)
+  answered_so : (r : Writing) (out : List ℕ) → Put a c room r out → (r ≡ Err TooShallow) ↔ (a ≡ Err TooShallow)
   answered_so r out h = (λ e. by a (sym h.answer ∙ e), λ e. h.answer ∙ ap (λ (a : Answer). into_room a (length bytes) (length room)) e)
     where
-      written : (t : Bool) (size : ℕ) → cond t (Written size) (NotWritten NoRoom) ≡ NotWritten TooShallow → ⊥
+      written : (t : Bool) (size : ℕ) → cond t (Ok size) (Err NoRoom) ≡ Err TooShallow → ⊥
       written true size e = let z : ◌≡◌ {A = ℕ} 0 1 = cc in omega arith
       written false size e = let z : ◌≡◌ {A = ℕ} 0 1 = cc in omega arith
 
-      by : (a : Answer) → into_room a (length bytes) (length room) ≡ NotWritten TooShallow → a ≡ Refused TooShallow
-      by Done e = absurd (written (leb (length bytes) (length room)) (length bytes) e)
-      by (Refused w) e = let z : w ≡ TooShallow = cc in ap Refused z
+      by : (a : Answer) → into_room a (length bytes) (length room) ≡ Err TooShallow → a ≡ Err TooShallow
+      by (Ok _) e = absurd (written (leb (length bytes) (length room)) (length bytes) e)
+      by (Err w) e = let z : w ≡ TooShallow = cc in ap Err z
 
-module _ (n : ℕ) (ar ts ds room : List ℕ) (k : ℕ) (out : List ℕ) (h : BuildsLate n ar ts ds room (Written k) out) where
+module _ (n : ℕ) (ar ts ds room : List ℕ) (k : ℕ) (out : List ℕ) (h : BuildsLate n ar ts ds room (Ok k) out) where
   pub late_writes : (take k out ≡ stored (late_built n ar ts ds)) × (drop k out ≡ drop k room)
   late_writes = writes (late_refusal n ar ts ds) (late_built n ar ts ds) room k out (late_put h)
 
   -- They read back as the program, which computes the matrix within the limits.
-  pub late_computes : (read_stored true (take k out) ≡ found (late_built n ar ts ds)) × LateRight n ar ts ds (late_built n ar ts ds)
+  pub late_computes : (read_stored true (take k out) ≡ Ok (late_built n ar ts ds)) × LateRight n ar ts ds (late_built n ar ts ds)
   late_computes =
       let ok = nothing_refused (late_refusal n ar ts ds) (late_built n ar ts ds) room k out (late_put h) in
       (ap (read_stored true) late_writes.0 ∙ building.late_reads_back n ar ts ds ok, late_right n ar ts ds ok)
 
-module _ (n : ℕ) (ts : List ℕ) (D : ℕ) (room : List ℕ) (k : ℕ) (out : List ℕ) (h : Builds n ts D room (Written k) out) where
+module _ (n : ℕ) (ts : List ℕ) (D : ℕ) (room : List ℕ) (k : ℕ) (out : List ℕ) (h : Builds n ts D room (Ok k) out) where
   pub build_writes : (take k out ≡ stored (built n ts D)) × (drop k out ≡ drop k room)
   build_writes = writes (refusal n ts D) (built n ts D) room k out (builds_put h)
 
   -- They read back as the program, which computes the matrix within the depth.
-  pub build_computes : (read_stored true (take k out) ≡ found (built n ts D)) × BuiltRight n ts D (built n ts D)
+  pub build_computes : (read_stored true (take k out) ≡ Ok (built n ts D)) × BuiltRight n ts D (built n ts D)
   build_computes =
       let ok = nothing_refused (refusal n ts D) (built n ts D) room k out (builds_put h) in
       (ap (read_stored true) build_writes.0 ∙ building.reads-back n ts D ok, built_right n ts D ok)
@@ -476,17 +485,17 @@ module _ (n : ℕ) (ar ts ds : List ℕ) (range : OutOfRange n (length ts) 0 →
         shallow = silent (deep_tells ds) depths;
       }
 
-  so : (r ≡ NotWritten TooShallow) ↔ (late_refusal n ar ts ds ≡ Refused TooShallow)
+  so : (r ≡ Err TooShallow) ↔ (late_refusal n ar ts ds ≡ Err TooShallow)
   so = answered_so (late_refusal n ar ts ds) (late_built n ar ts ds) room r out (late_put h)
 
   -- It is refused as too shallow exactly when no XOR program over the inputs at those arrivals makes each row within its own limit,
-  pub too_shallow_no_late_program : (r ≡ NotWritten TooShallow) ↔ ((gs : List Xor) → ComputesLate n ar ts ds gs → ⊥)
+  pub too_shallow_no_late_program : (r ≡ Err TooShallow) ↔ ((gs : List Xor) → ComputesLate n ar ts ds gs → ⊥)
   too_shallow_no_late_program =
       let q = building.too_shallow_is_no_late_program n ar ts ds ahead in
       (λ e. q.0 (so.0 e), λ f. so.1 (q.1 f))
 
   -- which is the same as a row's sum of 2^arrival over its inputs exceeding 2^limit.
-  pub too_shallow_late : (r ≡ NotWritten TooShallow) ↔ LateRow n ar ts ds
+  pub too_shallow_late : (r ≡ Err TooShallow) ↔ LateRow n ar ts ds
   too_shallow_late =
       let q = building.too_shallow_is_late n ar ts ds ahead in
       let t = late_tells n ar ts ds limits in
@@ -501,17 +510,17 @@ module _ (n : ℕ) (ts : List ℕ) (D : ℕ) (range : OutOfRange n (length ts) 0
   rows_fit : any_of (map (bad_row n) ts) ≡ false
   rows_fit = silent (tells_some (row_tells n) ts) rows
 
-  refused_so : (r ≡ NotWritten TooShallow) ↔ (refusal n ts D ≡ Refused TooShallow)
+  refused_so : (r ≡ Err TooShallow) ↔ (refusal n ts D ≡ Err TooShallow)
   refused_so = answered_so (refusal n ts D) (built n ts D) room r out (builds_put h)
 
   -- It is refused as too shallow exactly when no XOR program of that depth computes it,
-  pub too_shallow_no_program : (r ≡ NotWritten TooShallow) ↔ ((gs : List Xor) → Computes n ts D gs → ⊥)
+  pub too_shallow_no_program : (r ≡ Err TooShallow) ↔ ((gs : List Xor) → Computes n ts D gs → ⊥)
   too_shallow_no_program =
       let q = building.too_shallow_is_no_program n ts D shape_fits rows_fit depth in
       (λ e. q.0 (refused_so.0 e), λ f. refused_so.1 (q.1 f))
 
   -- which is the same as a row's weight exceeding 2^D.
-  pub too_shallow_heavy : (r ≡ NotWritten TooShallow) ↔ Some (λ (t : ℕ). 2 ^ D < weight n t) ts
+  pub too_shallow_heavy : (r ≡ Err TooShallow) ↔ Some (λ (t : ℕ). 2 ^ D < weight n t) ts
   too_shallow_heavy =
       let q = building.too_shallow_is_heavy n ts D shape_fits rows_fit depth in
       let t = tells_some (heavy_tells n D) ts in
@@ -553,7 +562,7 @@ ones_stop (suc k) n t x h b =
     (λ l. let p : n ≤ k = omega arith in let z = bit_above k t (omega (arith, pow_mono p)) in let q = ones_stop k n t x p b in omega (arith, q, z))
     (eq-or-lt_of_le {n = n} {m = suc k} h)
 
-module _ (n : ℕ) (ar ts ds : List ℕ) (ok : late_refusal n ar ts ds ≡ Done) (l : Limits) (small : LimitsFit l) where
+module _ (n : ℕ) (ar ts ds : List ℕ) (ok : late_refusal n ar ts ds ≡ done) (l : Limits) (small : LimitsFit l) where
   abbrev late_opened : State
   late_opened = state (late_built n ar ts ds) (matrix (as_rows ts)) l
 
@@ -576,12 +585,12 @@ module _ (n : ℕ) (ar ts ds : List ℕ) (ok : late_refusal n ar ts ds ≡ Done)
       unbroken (inr s) =
           (tells_some (row_tells n) ts).not_else ahead_of.rows (broken_bad n ts (subst (λ (k : ℕ). Some (BrokenRow k) (as_rows ts)) (late_inputs n ar ts ds) s))
 
-  pub late_opens : open_answer (stored (late_built n ar ts ds)) (brought_rows ts) ≡ Done
+  pub late_opens : open_answer (stored (late_built n ar ts ds)) (brought_rows ts) ≡ done
   late_opens = ap (open_answer (stored (late_built n ar ts ds))) (sym (rows_brought ts)) ∙ opens late_opened sound_opened
 
   pub late_passes : length (late_built n ar ts ds).gates ≤ l.gates → depth_of (late_built n ar ts ds) ≤ l.depth
-      → {b : Bench} → Runs empty_bench (opening (stored (late_built n ar ts ds)) (brought_rows ts) l ∷ []) b → (r : Reported) → ReportPromise b r
-      → (r ≡ Given (report_of late_opened)) × ((report_of late_opened).verdict ≡ Pass)
+      → {b : Bench} → Runs empty_bench (opening (stored (late_built n ar ts ds)) (brought_rows ts) l ∷ []) b → (r : Result Report Refusal) → ReportPromise b r
+      → (r ≡ Ok (report_of late_opened)) × ((report_of late_opened).verdict ≡ Pass)
   late_passes g d run r h = (report_given late_opened run now r h, (passes_exactly late_opened).1 right)
     where
       now : present_after (opening (stored (late_built n ar ts ds)) (brought_rows ts) l ∷ []) ≡ present late_opened
@@ -602,22 +611,22 @@ module _ (n : ℕ) (ar ts ds : List ℕ) (ok : late_refusal n ar ts ds ≡ Done)
             and_depth = omega (arith, b.linear);
           }
 
-module _ (n : ℕ) (ts : List ℕ) (D : ℕ) (ok : refusal n ts D ≡ Done) (l : Limits) (small : LimitsFit l) where
+module _ (n : ℕ) (ts : List ℕ) (D : ℕ) (ok : refusal n ts D ≡ done) (l : Limits) (small : LimitsFit l) where
   abbrev opened : State
   opened = state (built n ts D) (matrix (as_rows ts)) l
 
-  taken_late : late_refusal n (at_once n) ts (alike D ts) ≡ Done
+  taken_late : late_refusal n (at_once n) ts (alike D ts) ≡ done
   taken_late = sym (building.as_late n ts D).0 ∙ ok
 
-  pub built_opens : open_answer (stored (built n ts D)) (brought_rows ts) ≡ Done
+  pub built_opens : open_answer (stored (built n ts D)) (brought_rows ts) ≡ done
   built_opens = ap (λ (c : Listing). open_answer (stored c) (brought_rows ts)) (building.as_late n ts D).1 ∙ late_opens n (at_once n) ts (alike D ts) taken_late l small
 
   pub built_passes : length (built n ts D).gates ≤ l.gates → depth_of (built n ts D) ≤ l.depth
-      → {b : Bench} → Runs empty_bench (opening (stored (built n ts D)) (brought_rows ts) l ∷ []) b → (r : Reported) → ReportPromise b r
-      → (r ≡ Given (report_of opened)) × ((report_of opened).verdict ≡ Pass)
+      → {b : Bench} → Runs empty_bench (opening (stored (built n ts D)) (brought_rows ts) l ∷ []) b → (r : Result Report Refusal) → ReportPromise b r
+      → (r ≡ Ok (report_of opened)) × ((report_of opened).verdict ≡ Pass)
   built_passes g d {b} run r h =
       let e = (building.as_late n ts D).1 in
-      subst (λ (c : Listing). (r ≡ Given (report_of (state c (matrix (as_rows ts)) l))) × ((report_of (state c (matrix (as_rows ts)) l)).verdict ≡ Pass)) (sym e)
+      subst (λ (c : Listing). (r ≡ Ok (report_of (state c (matrix (as_rows ts)) l))) × ((report_of (state c (matrix (as_rows ts)) l)).verdict ≡ Pass)) (sym e)
       (late_passes n (at_once n) ts (alike D ts) taken_late l small
       (subst (λ (c : Listing). length c.gates ≤ l.gates) e g)
       (subst (λ (c : Listing). depth_of c ≤ l.depth) e d)

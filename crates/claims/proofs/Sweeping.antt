@@ -1,5 +1,6 @@
 -- Request 3: sweep out the trial gates, and append. What a sweep drops, merges and keeps; that outputs and their depths stay; that a second sweep
 -- changes nothing; and that the freed gates can be added again at the end, up to 248 and no further.
+use Rattle.std.specs.Prelude.{Ok, Err}
 use mathlib.Core.Path.{◌≡◌, refl, sym, ap, ap₂, ◌∙◌, subst}
 use mathlib.Core.Bool.{Bool, true, false, cond, not}
 use mathlib.Core.Logic.{◌↔◌, ⊎_elim}
@@ -11,11 +12,9 @@ use borrow.Author.Tests.{lt-ltb, le-ltb, ltb-true, ltb-false}
 use lib.Dec.{ltb, eqb}
 use lib.ListN.{length, get_or, take, replicate, length-replicate, get_or-eq_default}
 use Rattle.circuit.specs.declared.Refusal.TheVariants.{Full}
-use Rattle.circuit.specs.declared.Answer.{Answer}
-use Rattle.circuit.specs.declared.Answer.TheVariants.{Done, Refused}
 use Rattle.circuit.specs.Gate.{no_words}
 use Rattle.circuit.specs.Lines.{Gate, Listing, gate, no_gate, gate_at, with_gates, with_more, lines, depth_step, and_depth_step, words_step, input_words, depths, and_depths, output_on, counts_of, padded}
-use Rattle.circuit.specs.Rules.{unless, gate_answer}
+use Rattle.circuit.specs.Rules.{Answer, done, unless, gate_answer}
 use Rattle.circuit.specs.Sizes.{most_gates, most_lines}
 use Rattle.circuit.proofs.LineLaws.{lines_agree, lines_length, lines_one, place}
 use Rattle.circuit.proofs.Padding.{pad_read}
@@ -27,11 +26,11 @@ use Rattle.sweep.proofs.Theorems as sweeps
 use Rattle.sweep.proofs.Reaching.{used_exactly}
 use Rattle.targets.specs.Target.{is_matrix, wants, as_brought}
 use Rattle.bench.specs.declared.Bench.{Bench}
-use Rattle.bench.specs.declared.Edit.{Edit}
+use Rattle.bench.specs.declared.Reworked.{Reworked}
 use Rattle.bench.specs.declared.Verdict.TheVariants.{Wrong, OverGates, OverDepth, OverAndDepth, Pass}
 use Rattle.bench.specs.State.{limits, State, with_circuit, with_limits, Sound, Present, present, differs, least, first_output, first_input, verdict_of, report_of}
 use Rattle.bench.specs.Held.{empty_bench, full_bench, bench_of, Stands}
-use Rattle.bench.specs.Calls.{after, open_answer, after_sweep, sweep_edit, append_answer, appended, append_edit, places_from, readers_of, reworking, edit_by, SweepPromise, AppendPromise}
+use Rattle.bench.specs.Calls.{Edit, listed_in, after, open_answer, after_sweep, sweep_edit, append_answer, appended, append_edit, places_from, readers_of, reworking, edit_by, SweepPromise, AppendPromise}
 use Rattle.bench.specs.Run.{Call, present_from, present_after, Runs}
 use Rattle.bench.specs.Run.Call.{sweeping, appending}
 use Rattle.bench.proofs.Appends.{one_more, others_same, appended_reaches}
@@ -42,7 +41,7 @@ use Rattle.bench.proofs.RunLaws.{SameLine, after-calls, opens}
 use Rattle.bench.proofs.Standing.{all_below}
 use Rattle.bench.proofs.Sweeps.{outs_length, sound_sweep}
 use Rattle.report.proofs.Smallest.{least_same}
-use Rattle.claims.proofs.FirstDemand.{append-answer}
+use Rattle.claims.proofs.FirstDemand.{answer_in, append-answer}
 
 -- ---- What an output reaches, without the recursion that computes it: it names a line that is the gate's, or that reads it, directly or through others.
 
@@ -190,7 +189,7 @@ module _ (s : State) (ok : Sound s) where
   kept_in_order = sweeps.swept_order only c ok.circuit
 
   -- ---- A swept circuit is sound: no open refuses it.
-  pub swept_opens : open_answer (stored (swept c)) (as_brought s.target) ≡ Done
+  pub swept_opens : open_answer (stored (swept c)) (as_brought s.target) ≡ done
   swept_opens = opens cleared (sound_sweep s ok)
 
 -- ---- "The freed gates can be added again at the end by a new append call": up to 248,
@@ -204,7 +203,7 @@ abbrev pub with_all : State → List Gate → State
 with_all s qs = with_circuit s (with_gates s.circuit (s.circuit.gates ++ qs))
 
 -- one gate, where there is room and it fits on the next line
-append_one : (s : State) (q : Gate) → let c = s.circuit in length c.gates < most_gates → gate_answer (is_matrix s.target) (c.inputs + length c.gates) q ≡ Done
+append_one : (s : State) (q : Gate) → let c = s.circuit in length c.gates < most_gates → gate_answer (is_matrix s.target) (c.inputs + length c.gates) q ≡ done
     → present_from (present s) (appends (q ∷ [])) ≡ present (with_all s (q ∷ []))
 unfolding append_answer
 append_one s q room fits =
@@ -223,10 +222,10 @@ append-all s (q ∷ qs) room fits =
     let e : c.inputs + g + 0 ≡ c.inputs + g = omega arith in
     let next = with_all s (q ∷ []) in
     let more = one_more c q in
-    ap (λ (p : Present). present_from p (appends qs)) (append_one s q (omega arith) (subst (λ (x : ℕ). gate_answer only x q ≡ Done) e (fits 0 (omega arith))))
+    ap (λ (p : Present). present_from p (appends qs)) (append_one s q (omega arith) (subst (λ (x : ℕ). gate_answer only x q ≡ done) e (fits 0 (omega arith))))
     ∙ append-all next qs (omega (arith, more))
     (λ j h. let f : c.inputs + g + suc j ≡ c.inputs + length next.circuit.gates + j = omega (arith, more) in
-    subst (λ (x : ℕ). gate_answer only x (get_or qs j no_gate) ≡ Done) f (fits (suc j) (omega arith)))
+    subst (λ (x : ℕ). gate_answer only x (get_or qs j no_gate) ≡ done) f (fits (suc j) (omega arith)))
     ∙ ap (λ (l : List Gate). present (with_circuit s (with_gates c l))) (append_assoc c.gates (q ∷ []) qs)
 
 -- so after a sweep as many as went can be added again, whatever they are, if each fits on its line;
@@ -240,7 +239,7 @@ freed_again s ok qs h fits =
     append-all (cleared s ok) qs (omega (arith, h, most, sweeps.swept_fewer only s.circuit ok.circuit)) fits
 
 -- and no further (18; `append-numbers` in FirstDemand: exactly there, whatever the gate).
-pub no_further : (s : State) → 248 ≤ length s.circuit.gates → (kind a b : ℕ) → append_answer (present s) kind a b ≡ Refused Full
+pub no_further : (s : State) → 248 ≤ length s.circuit.gates → (kind a b : ℕ) → append_answer (present s) kind a b ≡ Err Full
 unfolding append_answer
 no_further s h kind a b =
     let c = s.circuit in
@@ -257,7 +256,7 @@ pub record ListsFrom (line many : ℕ) (lines : List ℕ) (count : ℕ) : Type 0
 
 -- the same of an edit's answer
 abbrev pub EditLists : ℕ → ℕ → Edit → Type 0
-EditLists line many e = ListsFrom line many e.lines e.count
+EditLists line many e = let r = listed_in e in ListsFrom line many r.lines r.count
 
 all_places : (i g : ℕ) → length (places_from i (replicate g true)) ≡ g
 unfolding places_from
@@ -271,7 +270,7 @@ place_at i (suc g) zero h = omega arith
 place_at i (suc g) (suc k) h = omega (arith, place_at (suc i) g k (omega arith))
 
 -- a set that is all lines from one on
-lists_from : (n g : ℕ) → EditLists n g (reworking (replicate n false ++ replicate g true))
+lists_from : (n g : ℕ) → EditLists n g (Ok (reworking (replicate n false ++ replicate g true)))
 lists_from n g =
     let marks = replicate n false ++ replicate g true in
     let z : 0 + length (replicate n false) ≡ n = omega (arith, length-replicate n false) in
@@ -289,12 +288,12 @@ pub sweep_lists : (s : State) → EditLists s.circuit.inputs (length (swept s.ci
 unfolding swept
 sweep_lists s = lists_from s.circuit.inputs (length (swept s.circuit).gates)
 
-pub append_lists : (s : State) (kind a b : ℕ) → append_answer (present s) kind a b ≡ Done
+pub append_lists : (s : State) (kind a b : ℕ) → append_answer (present s) kind a b ≡ done
     → EditLists (s.circuit.inputs + length s.circuit.gates) 1 (append_edit (present s) kind a b)
 append_lists s kind a b e =
     let c = s.circuit in
     let line = c.inputs + length c.gates in
-    let is = ap (λ (x : Answer). edit_by x (readers_of (with_more c (gate kind a b)) (length c.gates))) e ∙ ap reworking (appended_reaches c (gate kind a b)) in
+    let is = ap (λ (x : Answer). edit_by x (readers_of (with_more c (gate kind a b)) (length c.gates))) e ∙ ap (λ (marks : List Bool). Ok (reworking marks)) (appended_reaches c (gate kind a b)) in
     subst (EditLists line 1) (sym is) (lists_from line 1)
 
 -- An append leaves what is held for all other lines.
@@ -341,8 +340,8 @@ module _ (s : State) (ok : Sound s) (kind a b : ℕ) where
       subst (λ (z : Bench). SameLine z y i) (sym st.is)
       (subst (λ (z : Bench). SameLine (full_bench s) z i) (sym (promise (present s) st).1) (by (append_answer (present s) kind a b))) where
         by : (w : Answer) → SameLine (full_bench s) (bench_of (after w (appended s kind a b) (present s))) i
-        by Done = line_kept i other
-        by (Refused w) = record { depth = refl; and_depth = refl; values = refl }
+        by (Ok _) = line_kept i other
+        by (Err w) = record { depth = refl; and_depth = refl; values = refl }
 
 -- After any calls: what a sweep and an append on the bench list, and leave.
 module _ {b : Bench} {calls : List Call} (run : Runs empty_bench calls b) (s : State) (here : present_after calls ≡ present s) where
@@ -352,12 +351,12 @@ module _ {b : Bench} {calls : List Call} (run : Runs empty_bench calls b) (s : S
   pub sweep_listed : (edit : Edit) (next : Bench) → SweepPromise b edit next → EditLists s.circuit.inputs (length (swept s.circuit).gates) edit
   sweep_listed edit next h = subst (EditLists s.circuit.inputs (length (swept s.circuit).gates)) (sym (h (present s) stands).0) (sweep_lists s)
 
-  pub append-listed : (kind x y : ℕ) (edit : Edit) (next : Bench) → AppendPromise b kind x y edit next → edit.answer ≡ Done
-      → EditLists (s.circuit.inputs + length s.circuit.gates) 1 edit
-  append-listed kind x y edit next h e =
-      let q = (h (present s) stands).0 in
-      subst (EditLists (s.circuit.inputs + length s.circuit.gates) 1) (sym q)
-      (append_lists s kind x y (sym (append-answer (present s) kind x y) ∙ sym (ap (λ (z : Edit). z.answer) q) ∙ e))
+  pub append-listed : (kind x y : ℕ) (edit : Edit) (next : Bench) → AppendPromise b kind x y edit next → (r : Reworked) → edit ≡ Ok r
+      → ListsFrom (s.circuit.inputs + length s.circuit.gates) 1 r.lines r.count
+  append-listed kind x y edit next h r e =
+      let q = sym (h (present s) stands).0 ∙ e in
+      subst (EditLists (s.circuit.inputs + length s.circuit.gates) 1) q
+      (append_lists s kind x y (sym (append-answer (present s) kind x y) ∙ ap answer_in q))
 
   pub append_unchanged : (kind x y : ℕ) (edit : Edit) (next : Bench) → AppendPromise b kind x y edit next
       → (i : ℕ) → (i ≡ s.circuit.inputs + length s.circuit.gates → ⊥) → SameLine b next i

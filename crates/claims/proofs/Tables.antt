@@ -9,7 +9,6 @@ use Rattle.circuit.specs.Lines.{Gate, Listing}
 use Rattle.circuit.specs.Rows.{Row, row, no_row}
 use Rattle.circuit.specs.Rules.{answer_no}
 use Rattle.stored.specs.Stored.{stored}
-use Rattle.stored.specs.Writing.{writing_no}
 use Rattle.distance.specs.Base.{weight, load}
 use Rattle.builder.specs.Call.{built}
 use Rattle.builder.specs.Late.{late_built}
@@ -23,7 +22,6 @@ use Rattle.bench.specs.State.{State, Present, nothing, present}
 use Rattle.bench.specs.Calls.{open_answer, gate_edit_answer, output_edit_answer, entry_edit_answer, limits_answer, sweep_edit, append_answer, reported, store_answer}
 use Rattle.bench.specs.Run.{Call}
 use Rattle.bench.specs.Run.Call.{opening, replacing, pointing, changing, limiting, sweeping, appending, reporting, storing}
-use Rattle.coded.specs.Coded.{reported_code}
 use Rattle.claims.proofs.Causes.{first, accepted, Some}
 
 -- `first no cause rest` gives `no` where the cause is there, and goes on to the rest of the table where it is not.
@@ -217,10 +215,10 @@ call_no p (replacing k kind a b) = answer_no (gate_edit_answer p k kind a b)
 call_no p (pointing j line) = answer_no (output_edit_answer p j line)
 call_no p (changing i value constant) = answer_no (entry_edit_answer p i value constant)
 call_no p (limiting l) = answer_no (limits_answer p)
-call_no p sweeping = answer_no (sweep_edit p).answer
+call_no p sweeping = answer_no (sweep_edit p)
 call_no p (appending kind a b) = answer_no (append_answer p kind a b)
-call_no p reporting = (reported_code (reported p)).refusal
-call_no p (storing room) = writing_no (store_answer p (length room))
+call_no p reporting = answer_no (reported p)
+call_no p (storing room) = answer_no (store_answer p (length room))
 
 abbrev pub call_table : Present → Call → ℕ → Type 0
 call_table p (opening bytes t l) = open_table bytes t

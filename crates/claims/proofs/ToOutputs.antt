@@ -8,10 +8,9 @@ use mathlib.Core.List.{List, [], ◌∷◌, ◌++◌, map, Memᴰ}
 use Prim.Native.Nat.{ℕ, zero, suc, ◌+◌, ◌≤◌, ◌<◌, max}
 use native.Mathlib.Omega.{arith}
 use lib.ListN.{length, get_or, replicate, length-replicate, length-append, get_or-append}
-use Rattle.circuit.specs.declared.Answer.TheVariants.{Done}
 use Rattle.circuit.specs.Gate.{kind_of, nonlinear}
 use Rattle.circuit.specs.Lines.{Gate, Listing, with_gates, gate_at, no_gate, reads, lines, greatest, overall, depth_step, and_depth_step, depth_of, and_depth_of}
-use Rattle.circuit.specs.Rules.{listing_answer}
+use Rattle.circuit.specs.Rules.{done, listing_answer}
 use Rattle.circuit.proofs.Keep.{Below}
 use Rattle.circuit.proofs.LineLaws.{place, lines_one, lines_more, lines_at, lines_agree}
 use Rattle.circuit.proofs.Operands.{reads_one, reads_two, by_operands, reads_below}
@@ -58,7 +57,7 @@ some_read : (q : Gate) → 1 ≤ length (reads q)
 some_read q = by_operands (λ (q : Gate). 1 ≤ length (reads q)) q (λ h. omega (arith, ap length (reads_two q h))) (λ h. omega (arith, ap length (reads_one q h)))
 
 -- ---- a circuit that keeps the rules, and what its gates weigh
-module _ (only : Bool) (c : Listing) (ok : listing_answer only c ≡ Done) where
+module _ (only : Bool) (c : Listing) (ok : listing_answer only c ≡ done) where
   abbrev n : ℕ
   n = c.inputs
 

@@ -5,12 +5,11 @@ use Prim.Native.Nat.{ℕ}
 use Rattle.circuit.specs.Rules.{answer_no}
 use Rattle.targets.specs.Target.{Brought}
 use Rattle.bench.specs.declared.Bench.{Bench}
-use Rattle.bench.specs.declared.Edit.{Edit}
 use Rattle.bench.specs.declared.Opened.{Opened}
 use Rattle.bench.specs.declared.Edited.{Edited}
 use Rattle.bench.specs.State.{Limits, Present}
 use Rattle.bench.specs.Held.{bench_of, Stands}
-use Rattle.bench.specs.Calls.{OpenPromise}
+use Rattle.bench.specs.Calls.{Edit, OpenPromise}
 use Rattle.coded.specs.declared.Opened.{Opened as OpenedNumbers}
 use Rattle.coded.specs.declared.Edited.{Edited as EditedNumbers}
 use Rattle.coded.specs.Coded.{edit_code, open_coded, edit_coded, OpenCode}

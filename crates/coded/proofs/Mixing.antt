@@ -1,9 +1,9 @@
 -- A sequence of calls that give their answers as they are or as numbers is one of calls that give them as they are. Assumes nothing.
+use Rattle.circuit.specs.Rules.{done}
 use mathlib.Core.Path.{◌≡◌}
 use mathlib.Core.Logic.{inl, inr}
 use mathlib.Core.List.{List, ◌∷◌}
 use Prim.Native.Nat.{ℕ}
-use Rattle.circuit.specs.declared.Answer.TheVariants.{Done}
 use Rattle.targets.specs.Target.{Brought}
 use Rattle.bench.specs.declared.Bench.{Bench}
 use Rattle.bench.specs.State.{Limits, Present, nothing}
@@ -27,13 +27,13 @@ mixed_runs p k (RunsBy.more {call} mid step rest) =
     RunsBy.more mid here (mixed_runs (after_call p call) (step_stands p k here) rest)
 
 -- an accepted open on any bench, whatever it holds
-as_opened : {b next : Bench} {bytes : List ℕ} {t : Brought} {l : Limits} → open_answer bytes t ≡ Done
+as_opened : {b next : Bench} {bytes : List ℕ} {t : Brought} {l : Limits} → open_answer bytes t ≡ done
     → EitherStep b (opening bytes t l) next → Step empty_bench (opening bytes t l) next
 as_opened e (inl step) = open_otherwise as_they_are empty_bench e step
 as_opened e (inr step) = open_otherwise as_they_are empty_bench e step
 
 -- calls that begin with one
-pub mixed_anywhere : {b last : Bench} {bytes : List ℕ} {t : Brought} {l : Limits} {calls : List Call} → open_answer bytes t ≡ Done
+pub mixed_anywhere : {b last : Bench} {bytes : List ℕ} {t : Brought} {l : Limits} {calls : List Call} → open_answer bytes t ≡ done
     → MixedRuns b (opening bytes t l ∷ calls) last → Runs empty_bench (opening bytes t l ∷ calls) last
 mixed_anywhere {bytes} {t} {l} e (RunsBy.more mid step rest) =
     let here = as_opened e step in

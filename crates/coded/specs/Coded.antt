@@ -1,21 +1,18 @@
 -- The answers of the calls as numbers, what the calls with such answers promise, and sequences of them.
-use Rattle.std.specs.Prelude.{◌≡◌, ◌⊎◌, List, ℕ, length}
+use Rattle.std.specs.Prelude.{◌≡◌, ◌⊎◌, Result, Ok, Err, List, ℕ, length}
+use Rattle.circuit.specs.declared.Refusal.{Refusal}
 use Rattle.circuit.specs.Rules.{refusal_no, answer_no}
 use Rattle.stored.specs.Writing.{writing_code}
-use Rattle.drawing.specs.declared.Drawn.{Drawn}
-use Rattle.drawing.specs.Drawing.{drawn_no, drawn_place, drawn_count, drawn_answer, drawn_room}
+use Rattle.drawing.specs.Drawing.{Drawn, drawn_no, drawn_place, drawn_count, drawn_answer, drawn_room}
 use Rattle.targets.specs.Target.{Brought}
 use Rattle.bench.specs.declared.Bench.{Bench}
-use Rattle.bench.specs.declared.Edit.{Edit}
 use Rattle.bench.specs.declared.Report.{Report}
 use Rattle.bench.specs.declared.Verdict.{Verdict}
 use Rattle.bench.specs.declared.Verdict.TheVariants.{Wrong, OverGates, OverDepth, OverAndDepth, Pass}
-use Rattle.bench.specs.declared.Reported.{Reported}
-use Rattle.bench.specs.declared.Reported.TheVariants.{Given, NotGiven}
 use Rattle.bench.specs.declared.Opened.{Opened}
 use Rattle.bench.specs.declared.Edited.{Edited}
 use Rattle.bench.specs.State.{Limits}
-use Rattle.bench.specs.Calls.{View, OpenGiven, GateGiven, OutputGiven, EntryGiven, LimitsGiven, SweepGiven, AppendGiven, ReportGiven, StoreGiven}
+use Rattle.bench.specs.Calls.{Edit, listed_in, View, OpenGiven, GateGiven, OutputGiven, EntryGiven, LimitsGiven, SweepGiven, AppendGiven, ReportGiven, StoreGiven}
 use Rattle.bench.specs.Run.{Call, StepGiven, Step, RunsBy}
 use Rattle.coded.specs.declared.Opened.{Opened as OpenedNumbers}
 use Rattle.coded.specs.declared.Edited.{Edited as EditedNumbers}
@@ -26,7 +23,7 @@ use Rattle.coded.specs.declared.ReadingNumbers.{ReadingNumbers}
 
 -- an edit's answer in numbers: 0 or the refusal's, the count, the lines
 abbrev pub edit_code : Edit → EditNumbers
-edit_code e = record { refusal = answer_no e.answer; count = e.count; lines = e.lines }
+edit_code e = record { refusal = answer_no e; count = (listed_in e).count; lines = (listed_in e).lines }
 
 -- the bench beside an answer in numbers
 unfoldable pub open_coded : Opened → OpenedNumbers
@@ -66,9 +63,9 @@ abbrev pub refused_code : ℕ → ReportNumbers
 refused_code n = record { refusal = n; gates = 0; xors = 0; nonlinear = 0; nots = 0; depth = 0; ands = 0; verdict = 0; input = 0; output = 0 }
 
 -- what a report answers, in numbers
-abbrev pub reported_code : Reported → ReportNumbers
-reported_code (Given r) = report_code r
-reported_code (NotGiven w) = refused_code (refusal_no w)
+abbrev pub reported_code : Result Report Refusal → ReportNumbers
+reported_code (Ok r) = report_code r
+reported_code (Err w) = refused_code (refusal_no w)
 
 -- what reading an equation file answers, in numbers: 0 or the refusal's, the count, the place
 abbrev pub drawn_code : Drawn → ReadingNumbers

@@ -7,9 +7,9 @@ ghost use Rattle.targets.specs.Target.{brought};
 ghost use Rattle.bench.specs.State.{limits};
 ghost use Rattle.coded.specs.Coded.{open_coded, edit_coded, verdict_code, report_code, refused_code, drawn_code, OpenCode, GateCode, OutputCode, EntryCode, LimitsCode, SweepCode, AppendCode, ReportCodePromise, StoreCode, EquationsCode};
 
-use bench::{Bench, Report, Reported, Verdict, appending, edits, opening, sweeping};
-use circuit::{Answer, LINES, refusal_no, wide};
-use drawing::{BAD_NAME, BAD_TEXT, Drawn, NO_OUTPUTS};
+use bench::{Bench, NO_LINES, Report, Verdict, appending, edits, opening, sweeping};
+use circuit::{LINES, Refusal, refusal_no};
+use drawing::{BAD_NAME, BAD_TEXT, NO_OUTPUTS};
 
 // The bench after an open, and 0 or why it was refused.
 #[derive(Clone, Copy)]
@@ -50,12 +50,13 @@ pub struct ReportNumbers {
     pub output: usize,
 }
 
-fn answer_no(answer: Answer) -> usize
+// 0, or the number of why.
+fn answer_no<T: Copy>(answer: Result<T, Refusal>) -> usize
     ensures { result ≡ answer_no answer }
 {
     match answer {
-        Answer::Done => 0,
-        Answer::Refused(why) => refusal_no(why),
+        Ok(_) => 0,
+        Err(why) => refusal_no(why),
     }
 }
 
@@ -63,27 +64,28 @@ fn answer_no(answer: Answer) -> usize
 fn open_numbers(done: bench::Opened) -> Opened
     ensures { result ≡ open_coded done }
 {
-    let answer = done.answer;
-    let refusal = answer_no(answer);
-    let bench = done.bench;
-    Opened { bench, refusal }
+    Opened {
+        bench: done.bench,
+        refusal: answer_no(done.answer),
+    }
 }
 
 // An edit's answer in numbers.
 fn edit_numbers(done: bench::Edited) -> Edited
     ensures { result ≡ edit_coded done }
 {
-    let told = done.edit;
-    let answer = told.answer;
-    let refusal = answer_no(answer);
+    let refusal = answer_no(done.edit);
+    let told = done.edit.unwrap_or(NO_LINES);
     let lines = told.lines;
-    let bench = done.bench;
     let edit = EditNumbers {
         refusal,
         count: told.count,
         lines,
     };
-    Edited { bench, edit }
+    Edited {
+        bench: done.bench,
+        edit,
+    }
 }
 
 // Opens a circuit with a matrix for its target: in `rows` the masks, then the constants.
@@ -200,16 +202,15 @@ fn report_numbers(report: Report) -> ReportNumbers
     ensures { result ≡ report_code report }
 {
     let counts = report.counts;
-    let verdict = report.verdict;
-    let v = verdict_numbers(verdict);
+    let v = verdict_numbers(report.verdict);
     ReportNumbers {
         refusal: 0,
         gates: report.gates,
         xors: counts.xors,
         nonlinear: counts.nonlinear,
         nots: counts.nots,
-        depth: wide(report.depth),
-        ands: wide(report.and_depth),
+        depth: usize::from(report.depth),
+        ands: usize::from(report.and_depth),
         verdict: v.verdict,
         input: v.input,
         output: v.output,
@@ -238,10 +239,9 @@ fn refused_numbers(refusal: usize) -> ReportNumbers
 pub fn report(bench: Bench) -> ReportNumbers
     ensures { ReportCodePromise bench result }
 {
-    let given = report::report(bench);
-    match given {
-        Reported::Given(report) => report_numbers(report),
-        Reported::NotGiven(why) => refused_numbers(refusal_no(why)),
+    match report::report(bench) {
+        Ok(report) => report_numbers(report),
+        Err(why) => refused_numbers(refusal_no(why)),
     }
 }
 
@@ -264,31 +264,31 @@ pub struct ReadingNumbers {
 }
 
 // A reading's answer in numbers.
-fn drawn_numbers(drawn: Drawn) -> ReadingNumbers
+fn drawn_numbers(drawn: Result<usize, drawing::Refusal>) -> ReadingNumbers
     ensures { result ≡ drawn_code drawn }
 {
     match drawn {
-        Drawn::Stored(count) => ReadingNumbers {
+        Ok(count) => ReadingNumbers {
             refusal: 0,
             count,
             place: 0,
         },
-        Drawn::BadText(place) => ReadingNumbers {
+        Err(drawing::Refusal::BadText(place)) => ReadingNumbers {
             refusal: BAD_TEXT,
             count: 0,
             place,
         },
-        Drawn::BadName(place) => ReadingNumbers {
+        Err(drawing::Refusal::BadName(place)) => ReadingNumbers {
             refusal: BAD_NAME,
             count: 0,
             place,
         },
-        Drawn::NoOutputs => ReadingNumbers {
+        Err(drawing::Refusal::NoOutputs) => ReadingNumbers {
             refusal: NO_OUTPUTS,
             count: 0,
             place: 0,
         },
-        Drawn::NotStored(why) => ReadingNumbers {
+        Err(drawing::Refusal::NotStored(why)) => ReadingNumbers {
             refusal: refusal_no(why),
             count: 0,
             place: 0,
@@ -300,6 +300,5 @@ fn drawn_numbers(drawn: Drawn) -> ReadingNumbers
 pub fn equations(text: &[u8], room: &mut [u8]) -> ReadingNumbers
     ensures { EquationsCode text.now room.old result room.new }
 {
-    let drawn = drawing::equations(text, room);
-    drawn_numbers(drawn)
+    drawn_numbers(drawing::equations(text, room))
 }

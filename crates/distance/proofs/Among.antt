@@ -6,8 +6,8 @@ use native.Mathlib.Omega.{arith}
 use lib.Bits.{bit_xor}
 use lib.Dec.{leb}
 use lib.ListN.{length}
-use Rattle.distance.specs.declared.Looked.{Looked}
-use Rattle.distance.specs.declared.Looked.TheVariants.{Sound, Unsound}
+use Rattle.std.specs.Prelude.{Result, Ok, Err}
+use Rattle.distance.specs.declared.Refusal.{Refusal}
 use Rattle.distance.specs.Base.{Line, base_of}
 use Rattle.distance.specs.Distance.{can, gap_from, distance, numbers, first_set, gap_lines, gates}
 use Rattle.distance.specs.Query.{look_at, lines_where, lines_of}
@@ -58,9 +58,9 @@ gap_among (suc f) g t D ls = go (can (suc g) t (2 ^ D) ls) (gap_among f (suc g) 
 pub lines_among : (n : ℕ) (ms ds : List ℕ) (t D : ℕ) → Among n (length (base_of ms ds)) (lines_of n ms ds t D)
 unfolding lines_of
 lines_among n ms ds t D = go (look_at n ms ds t D) where
-  go : (l : Looked) → Among n (length (base_of ms ds)) (lines_where l (gap_lines (distance n (base_of ms ds) t D) t D (base_of ms ds)))
-  go Sound = let r = gap_among n 0 t D (base_of ms ds) in record { few = omega (arith, r.few); below = r.below }
-  go (Unsound why) = none_among n (length (base_of ms ds))
+  go : (l : Result (Unit {0}) Refusal) → Among n (length (base_of ms ds)) (lines_where l (gap_lines (distance n (base_of ms ds) t D) t D (base_of ms ds)))
+  go (Ok u) = let r = gap_among n 0 t D (base_of ms ds) in record { few = omega (arith, r.few); below = r.below }
+  go (Err why) = none_among n (length (base_of ms ds))
 
 -- a base has no more lines than masks
 pub base_short : (ms ds : List ℕ) → length (base_of ms ds) ≤ length ms

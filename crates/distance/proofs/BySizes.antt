@@ -6,16 +6,15 @@ use Prim.Native.Nat.{ℕ, zero, suc, ◌+◌, ◌-◌, ◌*◌, ◌^◌, ◌≤�
 use native.Mathlib.Decide.{ℕ_discrete, dec_le, dec_lt}
 use native.Mathlib.Omega.{arith}
 use borrow.Author.Tests.{eqb-true, ne_eqb}
-use lib.ListN.{length, get_or, set, drop, length-set, get_or-eq_default}
+use lib.ListN.{length, get_or, set, length-set, get_or-eq_default}
 use lib.Seq.{get_or-set_same, get_or-set_other}
 use lib.Pow.{pow_mono}
 use lib.Bits.{bit_xor, xor_lt, xor_zero_r}
 use lib.Dec.{eqb}
-use Rattle.distance.specs.Base.{Line, base_of, Shallow}
-use Rattle.distance.specs.Table.{far, bare, least_sum, cost_at, relaxed, no_line_numbers, lowered, TakenInto, Below, Ones, Sized, Ready}
+use Rattle.distance.specs.Base.{Line, base_of}
+use Rattle.distance.specs.Table.{far, bare, least_sum, cost_at, relaxed, no_line_numbers, lowered, TakenInto, Below, Ones, Sized}
 use Rattle.distance.proofs.Xor.{xor_twice}
 use Rattle.distance.proofs.Least.{least-none}
-use Rattle.distance.proofs.Search.{lines_at}
 use Rattle.distance.proofs.Entries.{prev_at}
 
 -- ---- one line
@@ -36,33 +35,51 @@ set_less h e c j p =
       | no q ↦ omega (arith, get_or-set_other h e j c 0 q)
     ]
 
--- lesser entries are still no greater than what the lines cost
-ones_less : (h g : List ℕ) (ls : List Line) → ((j : ℕ) → get_or g j 0 ≤ get_or h j 0) → Ones h ls → Ones g ls
-ones_less h g [] p o = omega (arith, o, p 0)
-ones_less h g (l ∷ ls) p o = (o.0, omega (arith, o.1, p (256 + l.mask)), ones_less h g ls p o.2)
-
--- the array of no lines
-pub ones_none : Ones no_line_numbers []
-unfolding no_line_numbers
-ones_none = refl
-
 -- a cost in the array is no more than 2 ^ d
 cost_le : (d c : ℕ) → c ≡ cost_at d → c ≤ 2 ^ d
 cost_le d c e = let p : min d 20 ≤ d = omega arith in omega (arith, e, pow_mono p)
 
--- one turn of the loop, downwards: the entry of the line's mask is lowered
-module _ (h ms ds : List ℕ) (i j c : ℕ) (p : j + 1 ≡ i) (q : i ≤ length ms) (even : length ms ≡ length ds) (byte : get_or ms j 0 < 256) (w : c ≡ cost_at (get_or ds j 0))
-    (o : Ones h (drop i (base_of ms ds))) where
-  pub ones_more : (g : List ℕ) → g ≡ lowered h (get_or ms j 0) c → Ones g (drop j (base_of ms ds))
-  unfolding lowered
-  ones_more g r =
-      let m = get_or ms j 0 in
-      let v = min (get_or h (256 + m) 0) c in
-      let low : get_or g (256 + m) 0 ≤ c = omega (arith, ap (λ (x : List ℕ). get_or x (256 + m) 0) r, set_at h (256 + m) v) in
-      let less : (x : ℕ) → get_or g x 0 ≤ get_or h x 0 = λ x. omega (arith, ap (λ (y : List ℕ). get_or y x 0) r, set_less h (256 + m) v x (omega arith)) in
-      let e : i ≡ suc j = omega arith in
-      subst (Ones g) (sym (lines_at ms ds j (omega arith) (omega arith)))
-      (byte, omega (arith, cost_le (get_or ds j 0) c w), ones_less h g (drop (suc j) (base_of ms ds)) less (subst (λ (x : ℕ). Ones h (drop x (base_of ms ds))) e o))
+-- the first i lines are entered: each costs at least what the entry of its mask says
+pub record Entered (h ms ds : List ℕ) (i : ℕ) : Type 0 where
+  pub none : get_or h 0 0 ≡ 0
+  pub line : (j : ℕ) → j < i → (get_or ms j 0 < 256) × (get_or h (256 + get_or ms j 0) 0 ≤ 2 ^ get_or ds j 0)
+
+-- the array of no lines
+pub entered_none : (ms ds : List ℕ) → Entered no_line_numbers ms ds 0
+unfolding no_line_numbers
+entered_none ms ds = record { none = refl; line = λ j q. absurd (omega arith) }
+
+-- a line more: the entry of its mask is lowered
+pub entered_more : (h g ms ds : List ℕ) (i c : ℕ) → get_or ms i 0 < 256 → c ≡ cost_at (get_or ds i 0) → g ≡ lowered h (get_or ms i 0) c → Entered h ms ds i → Entered g ms ds (i + 1)
+unfolding lowered
+entered_more h g ms ds i c byte w r o = record { none = omega (arith, less 0, o.none); line = line }
+  where
+    m : ℕ
+    m = get_or ms i 0
+
+    v : ℕ
+    v = min (get_or h (256 + m) 0) c
+
+    less : (x : ℕ) → get_or g x 0 ≤ get_or h x 0
+    less x = omega (arith, ap (λ (y : List ℕ). get_or y x 0) r, set_less h (256 + m) v x (omega arith))
+
+    line : (j : ℕ) → j < i + 1 → (get_or ms j 0 < 256) × (get_or g (256 + get_or ms j 0) 0 ≤ 2 ^ get_or ds j 0)
+    line j q =
+        elim (ℕ_discrete j i) [
+          | yes e ↦
+              let low : get_or g (256 + m) 0 ≤ c = omega (arith, ap (λ (x : List ℕ). get_or x (256 + m) 0) r, set_at h (256 + m) v) in
+              subst (λ (x : ℕ). (get_or ms x 0 < 256) × (get_or g (256 + get_or ms x 0) 0 ≤ 2 ^ get_or ds x 0)) (sym e) (byte, omega (arith, low, cost_le (get_or ds i 0) c w))
+          | no e ↦ let p = o.line j (omega arith) in (p.0, omega (arith, less (256 + get_or ms j 0), p.1))
+        ]
+
+-- all are entered
+pub entered_end : (h ms ds : List ℕ) (i : ℕ) → length ms ≤ i → Entered h ms ds i → Ones h (base_of ms ds)
+entered_end h [] ds i p o = o.none
+entered_end h (m ∷ ms) [] i p o = o.none
+entered_end h (m ∷ ms) (d ∷ ds) zero p o = absurd (omega arith)
+entered_end h (m ∷ ms) (d ∷ ds) (suc i) p o =
+    let l = o.line 0 (omega arith) in
+    (l.0, l.1, entered_end h ms ds i (omega arith) (record { none = o.none; line = λ j q. o.line (suc j) (omega arith) }))
 
 -- ---- no line, and one
 
@@ -176,13 +193,10 @@ pub size_there : (h : List ℕ) (g b : ℕ) (ls : List Line) → g ≤ 1 → Bel
 size_there h g b ls p o = record { at = λ k t x. o.at k t (omega arith) }
 
 -- the search for sets of g + 1 lines can begin
-pub ready_of : (ms ds h : List ℕ) (g b : ℕ) → length ms ≡ length ds → length ms ≤ 256 → Shallow ds → Below h (base_of ms ds) (max (g + 1) 2) b → Ready ms ds h (g + 1) b
-ready_of ms ds h g b e f s o = record { even = e; few = f; shallow = s; below = record { at = λ k t x. o.at k t (omega arith) } }
+pub below_next : (h : List ℕ) (ls : List Line) (g b : ℕ) → Below h ls (max (g + 1) 2) b → Below h ls (g + 1) b
+below_next h ls g b o = record { at = λ k t x. o.at k t (omega arith) }
 
 -- ---- the loop over the masks
-
-pub sized_start : (h : List ℕ) (k b : ℕ) → Sized h h k b 0
-sized_start h k b = record { low = λ j p. refl; level = λ m t p q r s. absurd (omega arith) }
 
 -- a mask whose lines are all too dear is of no use
 pub sized_skip : (h g : List ℕ) (k b m : ℕ) → 2 ≤ k → m < 256 → b < get_or g (256 + m) 0 → Sized h g k b m → Sized h g k b (m + 1)

@@ -1,6 +1,7 @@
 -- The ways of a number in digits, and of a name that may be an output.
 use mathlib.Core.Path.{◌≡◌, refl, sym, ◌∙◌}
 use mathlib.Core.Bool.{Bool, true, false}
+use mathlib.Core.Logic.{◌⊎◌, ⊎_elim}
 use mathlib.Core.List.{List}
 use Prim.Native.Nat.{ℕ, zero, suc, ◌+◌, ◌-◌, ◌*◌, ◌≤◌, ◌<◌}
 use native.Mathlib.Omega.{arith}
@@ -57,13 +58,15 @@ module _ (s : List ℕ) (from e : ℕ) where
     digits_end h = let k : e - i ≡ 0 = omega arith in sym (w.same ∙ rw k)
 
     module _ (h : i < e) (b : ℕ) (at : b ≡ get_or s i 0) where
-      pub digits_low : b < 48 → 0 ≡ digits_from s (e - from) from 0
+      pub digits_none : (b < 48) ⊎ (57 < b) → 0 ≡ digits_from s (e - from) from 0
       unfolding digits_from
-      digits_low l = let k : e - i ≡ suc (e - (i + 1)) = omega arith in sym (w.same ∙ rw (k, ← at, lt-ltb _ _ l))
+      digits_none = ⊎_elim low above
+        where
+          low : b < 48 → 0 ≡ digits_from s (e - from) from 0
+          low l = let k : e - i ≡ suc (e - (i + 1)) = omega arith in sym (w.same ∙ rw (k, ← at, lt-ltb _ _ l))
 
-      pub digits_high : 48 ≤ b → 57 < b → 0 ≡ digits_from s (e - from) from 0
-      unfolding digits_from
-      digits_high l m = let k : e - i ≡ suc (e - (i + 1)) = omega arith in sym (w.same ∙ rw (k, ← at, le-ltb _ _ l, lt-ltb _ _ m))
+          above : 57 < b → 0 ≡ digits_from s (e - from) from 0
+          above m = let k : e - i ≡ suc (e - (i + 1)) = omega arith in let l : 48 ≤ b = omega arith in sym (w.same ∙ rw (k, ← at, le-ltb _ _ l, lt-ltb _ _ m))
 
       pub counting_on : (x : ℕ) → 48 ≤ b → b ≤ 57 → x ≡ v * 10 + (b - 48) → Counting s from e x (i + 1)
       unfolding digits_from

@@ -2,6 +2,7 @@
 use mathlib.Core.Path.{◌≡◌, refl, ap, ◌∙◌, sym}
 use mathlib.Core.Bool.{Bool, true, false, cond}
 use mathlib.Core.Logic.{◌⊎◌, inl, inr}
+use Rattle.std.specs.Prelude.{Ok, Err}
 use Prim.Native.Nat.{ℕ, ◌+◌, ◌*◌, ◌≤◌, ◌<◌}
 use native.Mathlib.Omega.{arith}
 use borrow.Author.Tests.{le-leb, leb-true, leb-false}
@@ -14,10 +15,8 @@ use Rattle.circuit.specs.Sizes.{most_outputs, most_gates}
 use Rattle.circuit.specs.Structs.{listed}
 use Rattle.circuit.specs.Rules.{shaped}
 use Rattle.circuit.proofs.Shapes.{shape_is}
-use Rattle.stored.specs.declared.Writing.{Writing}
-use Rattle.stored.specs.declared.Writing.TheVariants.{Written, NotWritten}
 use Rattle.stored.specs.Stored.{stored}
-use Rattle.stored.specs.Writing.{write_answer}
+use Rattle.stored.specs.Writing.{Writing, write_answer}
 use Rattle.stored.proofs.Written.{size_is}
 
 module _ (c : Circuit) where
@@ -33,7 +32,7 @@ module _ (c : Circuit) where
 
   -- the answer for a room so long, by whether the shape is in range and the room long enough
   abbrev by_tests : Bool → Bool → Writing
-  by_tests t u = cond t (cond u (Written size) (NotWritten NoRoom)) (NotWritten Shape)
+  by_tests t u = cond t (cond u (Ok size) (Err NoRoom)) (Err Shape)
 
   -- two rooms that have space for any stored form are as good as one another
   pub write_any : (a b : ℕ) → 5 + 5 * most_gates + 3 * most_outputs ≤ a → 5 + 5 * most_gates + 3 * most_outputs ≤ b → write_answer c a ≡ write_answer c b
@@ -50,20 +49,20 @@ module _ (c : Circuit) where
     pub fits : k ≤ room
     pub most : k ≤ 5 + 5 * most_gates + 3 * most_outputs
 
-  pub write_size : (room k : ℕ) → write_answer c room ≡ Written k → WrittenAs room k
+  pub write_size : (room k : ℕ) → write_answer c room ≡ Ok k → WrittenAs room k
   unfolding write_answer
   write_size room k e = by (shaped c.n c.m c.g) (leb size room) refl refl e where
-    by : (t u : Bool) → shaped c.n c.m c.g ≡ t → leb size room ≡ u → by_tests t u ≡ Written k
+    by : (t u : Bool) → shaped c.n c.m c.g ≡ t → leb size room ≡ u → by_tests t u ≡ Ok k
         → WrittenAs room k
     by true true p q e = let z : size ≡ k = cc in record { shape = p; size = z; fits = omega (arith, leb-true size room q); most = omega (arith, size_most p) }
     by true false p q e = let z : ◌≡◌ {A = ℕ} 0 1 = cc in absurd (omega arith)
     by false u p q e = let z : ◌≡◌ {A = ℕ} 0 1 = cc in absurd (omega arith)
 
   -- why none is
-  pub write_refused : (room : ℕ) (w : Refusal) → write_answer c room ≡ NotWritten w → (w ≡ Shape) ⊎ ((w ≡ NoRoom) × (room < 5 + 5 * most_gates + 3 * most_outputs))
+  pub write_refused : (room : ℕ) (w : Refusal) → write_answer c room ≡ Err w → (w ≡ Shape) ⊎ ((w ≡ NoRoom) × (room < 5 + 5 * most_gates + 3 * most_outputs))
   unfolding write_answer
   write_refused room w e = by (shaped c.n c.m c.g) (leb size room) refl refl e where
-    by : (t u : Bool) → shaped c.n c.m c.g ≡ t → leb size room ≡ u → by_tests t u ≡ NotWritten w
+    by : (t u : Bool) → shaped c.n c.m c.g ≡ t → leb size room ≡ u → by_tests t u ≡ Err w
         → (w ≡ Shape) ⊎ ((w ≡ NoRoom) × (room < 5 + 5 * most_gates + 3 * most_outputs))
     by true true p q e = let z : ◌≡◌ {A = ℕ} 0 1 = cc in absurd (omega arith)
     by true false p q e = inr (cc, omega (arith, leb-false size room q, size_most p))

@@ -20,10 +20,10 @@ unfoldable pub circuit_of : List ℕ → Book → Circuit
 circuit_of numbers b =
     record {
       n = b.gates.high;
-      m = few_outputs (top_of numbers b.n);
+      m = few_outputs (top_of numbers b.names.n);
       g = b.gates.count;
       kinds = b.gates.kinds;
       left = upto (λ (k : ℕ). shift_of b.gates.high (get_or b.gates.left k 0)) most_gates;
       right = upto (λ (k : ℕ). shift_of b.gates.high (get_or b.gates.right k 0)) most_gates;
-      outputs = upto (λ (j : ℕ). shift_of b.gates.high (line_or0 (out_line numbers b.lines b.n j))) most_outputs;
+      outputs = upto (λ (j : ℕ). shift_of b.gates.high (line_or0 (out_line numbers b.names.lines b.names.n j))) most_outputs;
     }

@@ -1,11 +1,9 @@
 -- Which names are outputs, which lines they have, and refusal 17.
-use Rattle.std.specs.Prelude.{Bool, true, false, cond, List, ℕ, zero, suc, ◌+◌, ◌-◌, ◌*◌, leb, ltb, eqb, get_or}
+use Rattle.std.specs.Prelude.{Bool, true, false, cond, List, ℕ, zero, suc, ◌+◌, ◌-◌, ◌*◌, leb, ltb, eqb, get_or, Option, Some, None}
 use Rattle.circuit.specs.Lines.{upto}
 use Rattle.formula.specs.Sizes.{most_names, longest}
 use Rattle.formula.specs.Text.{seen, word_end}
 use Rattle.formula.specs.Names.{few_names, is_line}
-use Rattle.formula.specs.declared.Found.{Found}
-use Rattle.formula.specs.declared.Found.TheVariants.{Line, Nothing}
 
 -- one more than the number that f digits from i on write after the number v; 0 where there is anything else
 unfoldable pub digits_from : List ℕ → ℕ → ℕ → ℕ → ℕ
@@ -29,20 +27,20 @@ unfoldable pub numbers_of : List ℕ → List ℕ → ℕ → List ℕ
 numbers_of s starts n = upto (λ (i : ℕ). cond (ltb i (few_names n)) (output_no s (get_or starts i 0)) 0) most_names
 
 -- the line of output j, among f names from i on
-unfoldable pub out_from : List ℕ → List ℕ → ℕ → ℕ → ℕ → Found
-out_from numbers lines j zero i = Nothing
+unfoldable pub out_from : List ℕ → List ℕ → ℕ → ℕ → ℕ → Option ℕ
+out_from numbers lines j zero i = None
 out_from numbers lines j (suc f) i =
     let r = out_from numbers lines j f (i + 1) in
-    cond (eqb (get_or numbers i 0) (j + 1)) (Line (get_or lines i 0)) r
+    cond (eqb (get_or numbers i 0) (j + 1)) (Some (get_or lines i 0)) r
 
 -- the line of output j, among the first n names
-abbrev pub out_line : List ℕ → List ℕ → ℕ → ℕ → Found
+abbrev pub out_line : List ℕ → List ℕ → ℕ → ℕ → Option ℕ
 out_line numbers lines n j = out_from numbers lines j (few_names n) 0
 
 -- a line, or 0 where there is none
-abbrev pub line_or0 : Found → ℕ
-line_or0 (Line v) = v
-line_or0 Nothing = 0
+abbrev pub line_or0 : Option ℕ → ℕ
+line_or0 (Some v) = v
+line_or0 None = 0
 
 -- the greatest of t and f numbers from i on
 unfoldable pub top_from : List ℕ → ℕ → ℕ → ℕ → ℕ

@@ -1,11 +1,11 @@
 // Outputs: names that are y and a decimal number. Each name's number is found once; a search compares numbers.
-ghost use Rattle.std.specs.Prelude.{◌≡◌, cond, ◌+◌, ◌-◌, ◌≤◌, eqb, ltb};
-ghost use Rattle.drawing.specs.Outputs.{digits_from, zero_first, output_no, numbers_of, out_line, line_or0, top_of, all_from, whole_of};
+// A number stands as one more than it is, and 0 for none: `output_no`, of which `output_in` and `sets_output` speak, says it so.
+ghost use Rattle.std.specs.Prelude.{◌≡◌, ◌+◌, ◌-◌, ◌≤◌, eqb};
+ghost use Rattle.drawing.specs.Outputs.{digits_from, zero_first, output_no, numbers_of, out_line, top_of, all_from, whole_of};
 
-use circuit::wide;
-use formula::names::few_names;
 use formula::text::{byte_at, scan, sees, span};
-use formula::{Class, Found, LONGEST, NAMES};
+use formula::{Class, LONGEST, NAMES, Names};
+use sheet::Book;
 
 // One more than the number that the digits from `from` to e write; 0 where there is anything else.
 fn digits(s: &[u8], from: usize, e: usize) -> usize
@@ -13,29 +13,22 @@ fn digits(s: &[u8], from: usize, e: usize) -> usize
     ensures { result ≡ digits_from s.now (e - from) from 0 }
 {
     let mut v: usize = 0;
-    let mut i = from;
-    while i < e {
+    for i in from..e {
         let b = byte_at(s, i);
-        if b < b'0' {
+        if !b.is_ascii_digit() {
             return 0;
         }
-        if b'9' < b {
-            return 0;
-        }
-        v = v * 10 + wide(b - b'0');
-        i += 1;
+        v = v * 10 + usize::from(b - b'0');
     }
     v + 1
 }
 
 // Whether a zero stands first among the digits from p to e, and not alone.
+#[tactic(auto, unfolding(crate::specs::Outputs::zero_first))]
 fn zero_first(s: &[u8], p: usize, e: usize) -> bool
     ensures { result ≡ zero_first s.now p e }
 {
-    if 1 < span(p, e) {
-        return sees(s, p, b'0');
-    }
-    false
+    1 < span(p, e) && sees(s, p, b'0')
 }
 
 // One more than the number of the output that the name at p is; 0 for any other name.
@@ -46,110 +39,73 @@ pub fn output_no(s: &[u8], p: usize) -> usize
         return 0;
     }
     let e = scan(s, p, Class::Letter);
-    if e - p <= 1 {
-        return 0;
-    }
-    if LONGEST < e - p {
-        return 0;
-    }
-    if zero_first(s, p + 1, e) {
+    if e - p <= 1 || LONGEST < e - p || zero_first(s, p + 1, e) {
         return 0;
     }
     digits(s, p + 1, e)
 }
 
-// The numbers of the first n names; 0 past them.
-pub fn numbers(s: &[u8], starts: &[usize; NAMES], n: usize) -> [usize; NAMES]
-    ensures { result ≡ numbers_of s.now starts.now n }
+// The numbers of a book's names; 0 past them.
+pub fn numbers(s: &[u8], book: &Book) -> [usize; NAMES]
+    ensures { result ≡ numbers_of s.now book.now.starts book.now.names.n }
 {
-    let count = few_names(n);
     let mut r = [0usize; NAMES];
-    let mut i: usize = 0;
-    while i < count {
-        r[i] = output_no(s, starts[i]);
-        i += 1;
+    for i in 0..book.names.len() {
+        r[i] = output_no(s, book.starts[i]);
     }
     r
-}
-
-// The line of output j, among the first n names.
-fn out_line(numbers: &[usize; NAMES], lines: &[u8; NAMES], n: usize, j: usize) -> Found
-    ensures { result ≡ out_line numbers.now lines.now n j }
-{
-    let count = few_names(n);
-    let mut i: usize = 0;
-    while i < count {
-        if is_after(numbers[i], j) {
-            return Found::Line(lines[i]);
-        }
-        i += 1;
-    }
-    Found::Nothing
 }
 
 // Whether x is one more than j.
 fn is_after(x: usize, j: usize) -> bool
     ensures { result ≡ eqb x (j + 1) }
 {
-    if 0 < x { x - 1 == j } else { false }
+    0 < x && x - 1 == j
 }
 
-// The larger of two numbers.
-fn larger(t: usize, x: usize) -> usize
-    ensures { result ≡ cond (ltb t x) x t }
+// The line of output j.
+pub fn out_line(numbers: &[usize; NAMES], names: &Names, j: usize) -> Option<u8>
+    ensures { result ≡ out_line numbers.now names.now.lines names.now.n j }
 {
-    if t < x { x } else { t }
+    for i in 0..names.len() {
+        if is_after(numbers[i], j) {
+            return Some(names.lines[i]);
+        }
+    }
+    None
 }
 
 // One more than the highest output; 0 where there is none.
-pub fn top(numbers: &[usize; NAMES], n: usize) -> usize
-    ensures { result ≡ top_of numbers.now n }
+pub fn top(numbers: &[usize; NAMES], names: &Names) -> usize
+    ensures { result ≡ top_of numbers.now names.now.n }
 {
-    let count = few_names(n);
     let mut t: usize = 0;
-    let mut i: usize = 0;
-    while i < count {
-        t = larger(t, numbers[i]);
-        i += 1;
+    for i in 0..names.len() {
+        t = t.max(numbers[i]);
     }
     t
 }
 
 // Whether each output below t is set.
-fn all_set(numbers: &[usize; NAMES], lines: &[u8; NAMES], n: usize, t: usize) -> bool
-    ensures { result ≡ all_from numbers.now lines.now n t 0 }
+fn all_set(numbers: &[usize; NAMES], names: &Names, t: usize) -> bool
+    ensures { result ≡ all_from numbers.now names.now.lines names.now.n t 0 }
 {
-    let mut j: usize = 0;
-    while j < t {
-        let f = out_line(numbers, lines, n, j);
-        let Found::Line(_) = f else {
+    // `(0..t).all(..)` was tried: `search` finds no way from its run to `all_from`.
+    for j in 0..t {
+        if out_line(numbers, names, j).is_none() {
             return false;
-        };
-        j += 1;
+        }
     }
     true
 }
 
 // Whether an input is read, an output is set, and each output below one that is set.
-pub fn is_whole(numbers: &[usize; NAMES], lines: &[u8; NAMES], n: usize, high: u8) -> bool
-    ensures { result ≡ whole_of numbers.now lines.now n high }
+pub fn is_whole(numbers: &[usize; NAMES], book: &Book) -> bool
+    ensures { result ≡ whole_of numbers.now book.now.names.lines book.now.names.n book.now.gates.high }
 {
-    if high == 0 {
+    if book.gates.high == 0 {
         return false;
     }
-    let t = top(numbers, n);
-    if t == 0 {
-        return false;
-    }
-    all_set(numbers, lines, n, t)
-}
-
-// The line of output j, or 0 where it is not set.
-pub fn line_or_0(numbers: &[usize; NAMES], lines: &[u8; NAMES], n: usize, j: usize) -> u8
-    ensures { result ≡ line_or0 (out_line numbers.now lines.now n j) }
-{
-    match out_line(numbers, lines, n, j) {
-        Found::Line(v) => v,
-        Found::Nothing => 0,
-    }
+    let t = top(numbers, &book.names);
+    t != 0 && all_set(numbers, &book.names, t)
 }

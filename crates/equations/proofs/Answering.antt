@@ -12,9 +12,9 @@ use lib.ListN.{length, get_or, take, drop, length-take}
 use lib.Seq.{take-suc, take_at, take_all, take-take}
 use Rattle.circuit.specs.declared.Refusal.{Refusal}
 use Rattle.circuit.specs.declared.Refusal.TheVariants.{Shape}
-use Rattle.drawing.specs.declared.Drawn.{Drawn}
-use Rattle.drawing.specs.declared.Drawn.TheVariants.{Stored, BadText, BadName, NoOutputs, NotStored}
-use Rattle.drawing.specs.Drawing.{drawn_answer, drawn_bytes, room_drawn, EquationsPromise}
+use Rattle.std.specs.Prelude.{Ok, Err}
+use Rattle.drawing.specs.declared.Refusal.TheVariants.{BadText, BadName, NoOutputs, NotStored}
+use Rattle.drawing.specs.Drawing.{Drawn, drawn_answer, drawn_bytes, room_drawn, EquationsPromise}
 use Rattle.drawing.proofs.Rooms.{drawn-room, drawn_stored, drawn_refused}
 use Rattle.text.specs.Places.{leading, up_to}
 use Rattle.text.specs.Numbers.{hex_text}
@@ -77,15 +77,15 @@ unfolding answer_text
 too_long s h = rw (lt-ltb 65535 (length s) h)
 
 -- what stands first in the room after an answer is written as the bytes that the answer counts
-line_said : (s : List ℕ) (d : Drawn) (bytes room : List ℕ) → ((k : ℕ) → d ≡ Stored k → (length bytes ≡ k) × (k ≤ stored_most))
+line_said : (s : List ℕ) (d : Drawn) (bytes room : List ℕ) → ((k : ℕ) → d ≡ Ok k → (length bytes ≡ k) × (k ≤ stored_most))
     → line_in s d (room_drawn d bytes room) ≡ drawn_line s d bytes
-line_said s (Stored k) bytes room f =
+line_said s (Ok k) bytes room f =
     let m : length bytes ≡ min k stored_most = omega (arith, (f k refl).0, (f k refl).1) in
     ap (λ (l : List ℕ). hex_text l ++ new_line) (take_at bytes (drop (length bytes) room) (min k stored_most) m)
-line_said s (BadText place) bytes room f = refl
-line_said s (BadName place) bytes room f = refl
-line_said s NoOutputs bytes room f = refl
-line_said s (NotStored w) bytes room f = refl
+line_said s (Err (BadText place)) bytes room f = refl
+line_said s (Err (BadName place)) bytes room f = refl
+line_said s (Err NoOutputs) bytes room f = refl
+line_said s (Err (NotStored w)) bytes room f = refl
 
 -- a file that is read into a room of 2,048 bytes
 pub is_read : (s room out : List ℕ) (r : Drawn) → length s ≤ 65535 → length room ≡ stored_most → EquationsPromise s room r out → line_in s r out ≡ answer_text s
@@ -95,10 +95,10 @@ is_read s room out r h l p =
     let bytes = drawn_bytes s in
     let same : drawn_answer s (length room) ≡ full = ap (drawn_answer s) l in
     let held : out ≡ room_drawn full bytes room = p.bytes ∙ drawn-room s room ∙ ap (λ (d : Drawn). room_drawn d bytes room) same in
-    let few : (k : ℕ) → full ≡ Stored k → (length bytes ≡ k) × (k ≤ stored_most) = λ k e. let f = drawn_stored s stored_most k e in (f.0, omega (arith, f.1.1)) in
+    let few : (k : ℕ) → full ≡ Ok k → (length bytes ≡ k) × (k ≤ stored_most) = λ k e. let f = drawn_stored s stored_most k e in (f.0, omega (arith, f.1.1)) in
     let said : line_in s r out ≡ drawn_line s full bytes = ap₂ (line_in s) (p.answer ∙ same) held ∙ line_said s full bytes room few in
     said ∙ sym (rw (le-ltb 65535 (length s) h))
 
 -- the room is never too short: of the refusals of storing only 1 is written
-pub never_short : (s : List ℕ) (w : Refusal) → drawn_answer s stored_most ≡ NotStored w → w ≡ Shape
+pub never_short : (s : List ℕ) (w : Refusal) → drawn_answer s stored_most ≡ Err (NotStored w) → w ≡ Shape
 never_short s w e = ⊎_elim (λ p. p) (λ p. absurd (omega (arith, p.1))) (drawn_refused s stored_most w e)

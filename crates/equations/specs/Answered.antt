@@ -1,8 +1,7 @@
 -- The answer to a file as text: the stored circuit of its equations in digits, or the refusal, with line and column where it has a place.
-use Rattle.std.specs.Prelude.{cond, List, [], ◌∷◌, ◌++◌, reverse, ℕ, suc, ◌+◌, min, eqb, ltb, length, take}
-use Rattle.drawing.specs.declared.Drawn.{Drawn}
-use Rattle.drawing.specs.declared.Drawn.TheVariants.{Stored, BadText, BadName, NoOutputs, NotStored}
-use Rattle.drawing.specs.Drawing.{drawn_count, drawn_answer, drawn_bytes}
+use Rattle.std.specs.Prelude.{Ok, Err, cond, List, [], ◌∷◌, ◌++◌, reverse, ℕ, suc, ◌+◌, min, eqb, ltb, length, take}
+use Rattle.drawing.specs.declared.Refusal.TheVariants.{BadText, BadName, NoOutputs, NotStored}
+use Rattle.drawing.specs.Drawing.{Drawn, drawn_count, drawn_answer, drawn_bytes}
 use Rattle.text.specs.Places.{up_to}
 use Rattle.text.specs.Numbers.{hex_text, labelled}
 use Rattle.listing.specs.Printed.{new_line, unreadable_text, refused_name, refused_text, placed_text}
@@ -38,11 +37,11 @@ found_text number place line column = placed_text number place ++ labelled line_
 
 -- what is written for a file by what is read of it, where the bytes are those of its stored circuit
 abbrev pub drawn_line : List ℕ → Drawn → List ℕ → List ℕ
-drawn_line s (Stored count) bytes = hex_text bytes ++ new_line
-drawn_line s (BadText place) bytes = found_text 15 place (line_of s place) (column_of s place)
-drawn_line s (BadName place) bytes = found_text 16 place (line_of s place) (column_of s place)
-drawn_line s NoOutputs bytes = labelled refused_name 17 ++ new_line
-drawn_line s (NotStored w) bytes = refused_text w
+drawn_line s (Ok count) bytes = hex_text bytes ++ new_line
+drawn_line s (Err (BadText place)) bytes = found_text 15 place (line_of s place) (column_of s place)
+drawn_line s (Err (BadName place)) bytes = found_text 16 place (line_of s place) (column_of s place)
+drawn_line s (Err NoOutputs) bytes = labelled refused_name 17 ++ new_line
+drawn_line s (Err (NotStored w)) bytes = refused_text w
 
 -- more than any stored form has
 abbrev pub stored_most : ℕ

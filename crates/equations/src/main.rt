@@ -1,17 +1,17 @@
 // Reads an equation file from standard input, and writes the stored circuit in hexadecimal digits, or the refusal.
 #![tactic(auto)]
 
-ghost use Rattle.std.specs.Prelude.{◌≡◌, ◌++◌, ◌≤◌, min, length, take};
+ghost use Rattle.std.specs.Prelude.{◌≡◌, Err, [], ◌++◌, ◌≤◌, min, length, take};
 ghost use Rattle.io.specs.Counts.{IsPrefixLen};
 ghost use Rattle.text.specs.Numbers.{hex_text, labelled};
 ghost use Rattle.text.specs.Putting.{Put};
 ghost use Rattle.listing.specs.Printed.{new_line, refused_name};
-ghost use Rattle.equations.specs.Answered.{line_of, column_of, found_text, stored_most, line_in, answer_text};
+ghost use Rattle.equations.specs.Answered.{line_of, column_of, found_text, stored_most, drawn_line, line_in, answer_text};
 
-use drawing::{BAD_NAME, BAD_TEXT, Drawn, NO_OUTPUTS};
+use drawing::{BAD_NAME, BAD_TEXT, NO_OUTPUTS, Refusal};
 use intake::read_full;
 use std::io::Write;
-use text::{at_most, put_labelled};
+use text::put_labelled;
 
 // A file of more bytes than this is unreadable.
 const LONGEST: usize = 65535;
@@ -36,18 +36,16 @@ struct Spot {
 fn find_place(file: &[u8], place: usize) -> Spot
     ensures { (result.line ≡ line_of file.now place) × (result.column ≡ column_of file.now place) }
 {
-    let end = at_most(place, file.len());
-    let mut ended: usize = 0; // lines before this one
-    let mut passed: usize = 0; // bytes of this line before the place
-    let mut i = 0;
-    while i < end {
-        if file[i] == text::LF {
+    let end = place.min(file.len());
+    let mut ended = 0; // lines before this one
+    let mut passed = 0; // bytes of this line before the place
+    for &byte in &file[..end] {
+        if byte == text::LF {
             ended += 1;
             passed = 0;
         } else {
             passed += 1;
         }
-        i += 1;
     }
     Spot {
         line: ended + 1,
@@ -81,23 +79,33 @@ fn put_bytes(out: &mut [u8; ROOM], count: usize, room: &[u8]) -> usize
     ensures put { Put out.old 0 (hex_text (take (min count stored_most) room.now) ++ new_line) out.new result }
     ensures prefix_len { IsPrefixLen result out.new }
 {
-    let shown = at_most(count, STORED);
+    let shown = count.min(STORED);
     let end = text::put_hex(out, 0, &room[..shown]);
     text::put(out, end, b"\n")
 }
 
+// Why nothing was read of a file.
+fn put_refusal(out: &mut [u8; ROOM], file: &[u8], why: Refusal) -> usize
+    ensures put { Put out.old 0 (drawn_line file.now (Err why) []) out.new result }
+    ensures prefix_len { IsPrefixLen result out.new }
+{
+    match why {
+        Refusal::BadText(place) => put_found(out, BAD_TEXT, place, find_place(file, place)),
+        Refusal::BadName(place) => put_found(out, BAD_NAME, place, find_place(file, place)),
+        Refusal::NoOutputs => put_number(out, NO_OUTPUTS),
+        Refusal::NotStored(why) => listing::put_refused(out, why),
+    }
+}
+
 // What was read of a file and stands first in a room, or the refusal.
-fn put_drawn(out: &mut [u8; ROOM], file: &[u8], drawn: Drawn, room: &[u8]) -> usize
+fn put_drawn(out: &mut [u8; ROOM], file: &[u8], drawn: Result<usize, Refusal>, room: &[u8]) -> usize
     requires { stored_most ≤ length room.now }
     ensures put { Put out.old 0 (line_in file.now drawn room.now) out.new result }
     ensures prefix_len { IsPrefixLen result out.new }
 {
     match drawn {
-        Drawn::Stored(count) => put_bytes(out, count, room),
-        Drawn::BadText(place) => put_found(out, BAD_TEXT, place, find_place(file, place)),
-        Drawn::BadName(place) => put_found(out, BAD_NAME, place, find_place(file, place)),
-        Drawn::NoOutputs => put_number(out, NO_OUTPUTS),
-        Drawn::NotStored(why) => listing::put_refused(out, why),
+        Ok(count) => put_bytes(out, count, room),
+        Err(why) => put_refusal(out, file, why),
     }
 }
 

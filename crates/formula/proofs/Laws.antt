@@ -1,15 +1,15 @@
 -- Laws of places in a text, over plain values.
-use mathlib.Core.Path.{◌≡◌, refl}
+use mathlib.Core.Path.{◌≡◌, refl, sym, ◌∙◌}
 use mathlib.Core.Bool.{Bool, true, false, cond}
 use mathlib.Core.List.{List, [], ◌∷◌}
 use Prim.Native.Nat.{ℕ, suc, ◌+◌, ◌-◌, ◌≤◌, ◌<◌}
 use native.Mathlib.Numerals.{add-one}
 use native.Mathlib.Omega.{arith}
-use borrow.Author.Tests.{ltb-true}
+use borrow.Author.Tests.{lt-ltb, le-ltb, ltb-true}
 use lib.Dec.{ltb, eqb}
 use lib.ListN.{length, get_or, drop, length-drop, drop_of_length-le}
 use lib.Seq.{drop-cons}
-use Rattle.formula.specs.Text.{seen, lead, past, wrap_with}
+use Rattle.formula.specs.Text.{seen, Seen, lead, past, wrap_with}
 
 module _ (f : ℕ → Bool) (s : List ℕ) (p : ℕ) where
   pub past_hit : p < length s → f (get_or s p 0) ≡ true → past f s p ≡ past f s (p + 1)
@@ -47,6 +47,15 @@ seen_in s p b e = by (ltb p (length s)) refl e
     by : (t : Bool) → ltb p (length s) ≡ t → cond t (eqb (get_or s p 0) b) false ≡ true → p < length s
     by true q e = ltb-true _ _ q
     by false q e = let z : ◌≡◌ {A = ℕ} 0 1 = cc in absurd (omega arith)
+
+module _ (s : List ℕ) (p b : ℕ) where
+  pub seen_here : (r : Bool) → p < length s → r ≡ eqb (get_or s p 0) b → Seen s p b r
+  unfolding seen
+  seen_here r h e = record { is = e ∙ rw (lt-ltb _ _ h); within = λ k. h }
+
+  pub seen_past : (r : Bool) → length s ≤ p → r ≡ false → Seen s p b r
+  unfolding seen
+  seen_past r h e = record { is = e ∙ rw (le-ltb _ _ h); within = λ k. let n = sym k ∙ e in let z : ◌≡◌ {A = ℕ} 0 1 = cc in absurd (omega arith) }
 
 -- ---- a turn of `wrap`
 module _ {A : Type 0} (n : A → A) (s : List ℕ) where

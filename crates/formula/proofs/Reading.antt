@@ -6,67 +6,86 @@ use Prim.Native.Nat.{ℕ, zero, suc, ◌+◌, ◌-◌, ◌≤◌, ◌<◌}
 use native.Mathlib.Omega.{arith}
 use lib.Dec.{leb, ltb}
 use lib.ListN.{length}
+use Rattle.std.specs.Prelude.{Option, Some, None, Ok, Err}
 use Rattle.formula.specs.declared.Gates.{Gates}
-use Rattle.formula.specs.declared.Read.{Read}
-use Rattle.formula.specs.declared.Next.TheVariants.{On, Done}
-use Rattle.formula.specs.declared.Out.{Out}
-use Rattle.formula.specs.declared.Out.TheVariants.{Got, Bad, Unknown}
-use Rattle.formula.specs.declared.Found.{Found}
-use Rattle.formula.specs.declared.Found.TheVariants.{Line, Nothing}
+use Rattle.formula.specs.declared.Why.{Why}
+use Rattle.formula.specs.declared.Why.TheVariants.{Text}
 use Rattle.formula.specs.Sizes.{longest}
 use Rattle.formula.specs.Text.{word_end, in_class, seen, skip_of, tildes_of, wrap_with}
-use Rattle.formula.specs.Tree.{Op, And, Xor, Or, sign_of, kind_no, Tree, Res, got, bad, unk, join_tree, not_tree}
-use Rattle.formula.specs.Emit.{add_gate, invert, new_line, gates_of, line_of, failed, emitted, join_gate, not_gate, close_gates, next_of}
+use Rattle.formula.specs.Tree.{Op, And, Xor, Or, sign_of, kind_no, Tree, neg, bin, Res, got, bad, unk, join_tree, not_tree}
+use Rattle.formula.specs.Emit.{add_gate, new_line, Out, Read, read_at, worked_at, inverted_once, gates_of, line_of, failed, emitted}
 use Rattle.formula.specs.Names.{named, name_by}
 use Rattle.formula.specs.Levels.{close_tree, chain, level, bracket, paren_of, not_of, and_of, xor_of, or_of}
 use borrow.Author.Tests.{leb-false}
 use Rattle.formula.proofs.Laws.{past-ge, seen_in}
 use Rattle.formula.specs.declared.Class.TheVariants.{Blank, Tilde}
 
--- ---- the code's steps on what a formula made are the formula's
+-- ---- what a level gave, taken apart
 
-pub with_join : (op : Op) (t : Tree) (g : Gates) (x : Res) → join_gate (kind_no op) (line_of t g) (emitted (gates_of t g) x) ≡ emitted g (join_tree op t x)
-with_join op t g (got q u) = refl
-with_join op t g (bad q) = refl
-with_join op t g (unk q) = refl
+abbrev pub place_in : Out → ℕ
+place_in (Ok x) = x.0
+place_in (Err w) = 0
 
-with_neg : (g : Gates) (x : Res) → not_gate (emitted g x) ≡ emitted g (not_tree x)
-with_neg g (got q u) = refl
-with_neg g (bad q) = refl
-with_neg g (unk q) = refl
+abbrev pub line_in : Out → ℕ
+line_in (Ok x) = x.1
+line_in (Err w) = 0
 
-pub with_wrap : (s : List ℕ) (f i : ℕ) (g : Gates) (x : Res) → wrap_with not_gate s f i (emitted g x) ≡ emitted g (wrap_with not_tree s f i x)
+-- a formula was read up to p, and it made the gates h and the line v of the gates g
+pub record Made (g h : Gates) (p v : ℕ) (x : Res) : Type 0 where
+  pub tree : Tree
+  pub is : x ≡ got p tree
+  pub gates : h ≡ gates_of tree g
+  pub line : v ≡ line_of tree g
+
+pub made_of : (g h : Gates) (p v : ℕ) (x : Res) → read_at h (Ok (p, v)) ≡ emitted g x → Made g h p v x
+made_of g h p v (got q t) e =
+    let z : p ≡ q = ap (λ (r : Read). place_in r.out) e in
+    record { tree = t; is = rw z; gates = ap (λ (r : Read). r.gates) e; line = ap (λ (r : Read). line_in r.out) e }
+made_of g h p v (bad q) e = let k = ap (λ (r : Read). r.out) e in let z : ◌≡◌ {A = ℕ} 0 1 = cc in absurd (omega arith)
+made_of g h p v (unk q) e = let k = ap (λ (r : Read). r.out) e in let z : ◌≡◌ {A = ℕ} 0 1 = cc in absurd (omega arith)
+
+-- a refusal stays, whatever comes after it
+pub stays : (f : Res → Res) → ((q : ℕ) → f (bad q) ≡ bad q) → ((q : ℕ) → f (unk q) ≡ unk q) → (g g' h : Gates) (w : Why) (x : Res) → read_at h (Err w) ≡ emitted g x → read_at h (Err w) ≡ emitted g' (f x)
+stays f fb fu g g' h w (got q t) e = let k = ap (λ (r : Read). r.out) e in let z : ◌≡◌ {A = ℕ} 0 1 = cc in absurd (omega arith)
+stays f fb fu g g' h w (bad q) e = e ∙ ap (emitted g') (sym (fb q))
+stays f fb fu g g' h w (unk q) e = e ∙ ap (emitted g') (sym (fu q))
+
+-- what a formula makes, and a gate over two of them
+made_is : (t : Tree) (g h : Gates) (p q v : ℕ) → h ≡ gates_of t g → v ≡ line_of t g → p ≡ q → read_at h (Ok (p, v)) ≡ emitted g (got q t)
+made_is t g h p q v eh ev e = rw (eh, ev, e)
+
+module _ (op : Op) (t t2 : Tree) (g h h' : Gates) (v u : ℕ) (eh : h ≡ gates_of t g) (ev : v ≡ line_of t g) (eh' : h' ≡ gates_of t2 h) (eu : u ≡ line_of t2 h) where
+  bin_gates : (r : Gates) → r ≡ add_gate h' (kind_no op) v u → r ≡ gates_of (bin op t t2) g
+  bin_gates r e = e ∙ rw (eh', eu, ev, eh)
+
+  bin_line : (l : ℕ) → l ≡ new_line h'.count → l ≡ line_of (bin op t t2) g
+  bin_line l e = e ∙ rw (eh', eh)
+
+-- ---- ~ before what was read
+
+abbrev read_pair : ℕ → Gates × ℕ → Read
+read_pair q x = read_at x.0 (Ok (q, x.1))
+
+wrapped : (s : List ℕ) (q f i : ℕ) (g : Gates) (t : Tree) → read_pair q (wrap_with inverted_once s f i (worked_at (gates_of t g) (line_of t g))) ≡ emitted g (wrap_with not_tree s f i (got q t))
 unfolding wrap_with
-with_wrap s zero i g x = refl
-with_wrap s (suc f) i g x = by (seen s i 126) (with_wrap s f (i + 1) g)
+wrapped s q zero i g t = refl
+wrapped s q (suc f) i g t = by (seen s i 126) (wrapped s q f (i + 1) g)
   where
-    by : (t : Bool) → ((x : Res) → wrap_with not_gate s f (i + 1) (emitted g x) ≡ emitted g (wrap_with not_tree s f (i + 1) x))
-        → wrap_with not_gate s f (i + 1) (cond t (not_gate (emitted g x)) (emitted g x)) ≡ emitted g (wrap_with not_tree s f (i + 1) (cond t (not_tree x) x))
-    by true h = rw (with_neg g x) (h (not_tree x))
-    by false h = h x
+    by : (b : Bool) → ((t : Tree) → read_pair q (wrap_with inverted_once s f (i + 1) (worked_at (gates_of t g) (line_of t g))) ≡ emitted g (wrap_with not_tree s f (i + 1) (got q t)))
+        → read_pair q (wrap_with inverted_once s f (i + 1) (cond b (inverted_once (worked_at (gates_of t g) (line_of t g))) (worked_at (gates_of t g) (line_of t g)))) ≡ emitted g (wrap_with not_tree s f (i + 1) (cond b (not_tree (got q t)) (got q t)))
+    by true h = h (neg t)
+    by false h = h t
 
-pub with_close : (s : List ℕ) (g : Gates) (x : Res) → close_gates s (emitted g x) ≡ emitted g (close_tree s x)
-unfolding close_tree
-with_close s g (got q t) = by (seen s q 41)
+wrap_stays : (s : List ℕ) (f i : ℕ) (r : Res) → not_tree r ≡ r → wrap_with not_tree s f i r ≡ r
+unfolding wrap_with
+wrap_stays s zero i r e = refl
+wrap_stays s (suc f) i r e = by (seen s i 126) (wrap_stays s f (i + 1) r e)
   where
-    by : (b : Bool) → cond b (record { gates = gates_of t g; out = Got (skip_of s (q + 1)) (line_of t g) }) (failed (Bad q)) ≡ emitted g (cond b (got (skip_of s (q + 1)) t) (bad q))
-    by true = refl
-    by false = refl
-with_close s g (bad q) = refl
-with_close s g (unk q) = refl
+    by : (b : Bool) → wrap_with not_tree s f (i + 1) r ≡ r → wrap_with not_tree s f (i + 1) (cond b (not_tree r) r) ≡ r
+    by true h = rw e h
+    by false h = h
 
 -- ---- the ways of a chain
-
--- bytes left after an answer
-abbrev pub left_out : List ℕ → Out → ℕ
-left_out s (Got p v) = length s - p
-left_out s (Bad p) = 0
-left_out s (Unknown p) = 0
-
-abbrev pub left_of : List ℕ → Res → ℕ
-left_of s (got p t) = length s - p
-left_of s (bad p) = 0
-left_of s (unk p) = 0
 
 -- the answer lies past p
 abbrev pub Past : ℕ → Res → Type 0
@@ -79,162 +98,85 @@ past-le p q (got u t) h k = omega arith
 past-le p q (bad u) h k = omega arith
 past-le p q (unk u) h k = omega arith
 
--- a loop over a chain: r is what the formula x made of g, and what is still to be read from x gives the answer a
-pub record Going (s : List ℕ) (op : Op) (o : ℕ → Res) (g : Gates) (a : Res) (r : Read) : Type 0 where
+-- a loop over a chain: h and v are what a formula made of g up to p, and what is still to be read from p gives the answer a
+pub record Going (s : List ℕ) (op : Op) (o : ℕ → Res) (g : Gates) (a : Res) (h : Gates) (p v : ℕ) : Type 0 where
   pub fuel : ℕ
-  pub so_far : Res
-  pub is : r ≡ emitted g so_far
-  pub enough : left_of s so_far ≤ fuel
-  pub same : chain s op o fuel so_far ≡ a
-
--- what an operator that stands there shows
-record Here (s : List ℕ) (op : ℕ) (g : Gates) (x : Res) (q v : ℕ) : Type 0 where
-  place : ℕ
-  tree : Tree
-  is : x ≡ got place tree
-  line : v ≡ line_of tree g
-  at : q ≡ place + 1
-  op_there : seen s place op ≡ true
-
-on : (s : List ℕ) (op : ℕ) (g : Gates) (x : Res) (q v : ℕ) → next_of s op (emitted g x).out ≡ On q v → Here s op g x q v
-on s op g (got p t) q v e = by (seen s p op) refl e
-  where
-    by : (b : Bool) → seen s p op ≡ b → cond b (On (p + 1) (line_of t g)) Done ≡ On q v → Here s op g (got p t) q v
-    by true w e = record { place = p; tree = t; is = refl; line = cc; at = cc; op_there = w }
-    by false w e = let z : ◌≡◌ {A = ℕ} 0 1 = cc in absurd (omega arith)
-on s op g (bad p) q v e = let z : ◌≡◌ {A = ℕ} 0 1 = cc in absurd (omega arith)
-on s op g (unk p) q v e = let z : ◌≡◌ {A = ℕ} 0 1 = cc in absurd (omega arith)
+  pub tree : Tree
+  pub gates : h ≡ gates_of tree g
+  pub line : v ≡ line_of tree g
+  pub enough : length s - p ≤ fuel
+  pub same : chain s op o fuel (got p tree) ≡ a
 
 module _ (s : List ℕ) (op : Op) (o : ℕ → Res) (g : Gates) where
-  pub starts : (p : ℕ) (r : Read) → r ≡ emitted g (o p) → Going s op o g (level s op o p) r
-  unfolding level
-  starts p r e = record { fuel = length s; so_far = o p; is = e; enough = by (o p); same = refl }
-    where
-      by : (x : Res) → left_of s x ≤ length s
-      by (got q t) = omega arith
-      by (bad q) = omega arith
-      by (unk q) = omega arith
-
-  stop : (f : ℕ) (x : Res) → next_of s (sign_of op) (emitted g x).out ≡ Done → chain s op o f x ≡ x
+  chain_bad : (f q : ℕ) → chain s op o f (bad q) ≡ bad q
   unfolding chain
-  stop zero x e = refl
-  stop (suc f) (bad q) e = refl
-  stop (suc f) (unk q) e = refl
-  stop (suc f) (got p t) e = by (seen s p (sign_of op)) _ e
-    where
-      by : (b : Bool) (r : Res) → cond b (On (p + 1) (line_of t g)) Done ≡ Done → cond b r (got p t) ≡ got p t
-      by false r e = refl
-      by true r e = let z : ◌≡◌ {A = ℕ} 0 1 = cc in absurd (omega arith)
+  chain_bad zero q = refl
+  chain_bad (suc f) q = refl
 
-  pub ends : (a : Res) (r : Read) → Going s op o g a r → next_of s (sign_of op) r.out ≡ Done → r ≡ emitted g a
-  ends a r w e = w.is ∙ ap (emitted g) (sym (stop w.fuel w.so_far (rw w.is at e)) ∙ w.same)
-
-  fewer : (p : ℕ) (t : Tree) (x : Res) → p < length s → Past (p + 1) x → left_of s (join_tree op t x) < length s - p
-  fewer p t (got q u) h w = omega arith
-  fewer p t (bad q) h w = omega arith
-  fewer p t (unk q) h w = omega arith
-
-  out_left : (x : Res) → left_out s (emitted g x).out ≡ left_of s x
-  out_left (got q t) = refl
-  out_left (bad q) = refl
-  out_left (unk q) = refl
-
-  joined_at : (t : Tree) (p q v : ℕ) (x : Res) (r u r' : Read) → x ≡ got p t → v ≡ line_of t g → q ≡ p + 1 → r ≡ emitted g x → u ≡ emitted r.gates (o q) → r' ≡ join_gate (kind_no op) v u
-      → r' ≡ emitted g (join_tree op t (o (p + 1)))
-  joined_at t p q v x r u r' ex ev eq er eu e =
-      e
-      ∙ ap (join_gate (kind_no op) v) (eu ∙ ap (λ (h : Gates). emitted h (o q)) (ap (λ (z : Read). z.gates) (er ∙ ap (emitted g) ex)))
-      ∙ rw (ev, eq) (with_join op t g (o (p + 1)))
-
-  step_on : ((p : ℕ) → Past p (o p)) → (t : Tree) (p f : ℕ) (a x : Res) (r' : Read) → x ≡ got p t → left_of s x ≤ f → chain s op o f x ≡ a → seen s p (sign_of op) ≡ true
-      → r' ≡ emitted g (join_tree op t (o (p + 1))) → Going s op o g a r'
+  chain_unk : (f q : ℕ) → chain s op o f (unk q) ≡ unk q
   unfolding chain
-  step_on adv t p f a x r' ex enough same b e = by f (rw ex at enough) (rw ex at same)
-    where
-      by : (f : ℕ) → length s - p ≤ f → chain s op o f (got p t) ≡ a → Going s op o g a r'
-      by zero m same = absurd (omega (arith, seen_in s p (sign_of op) b))
-      by (suc f) m same =
+  chain_unk zero q = refl
+  chain_unk (suc f) q = refl
+
+  -- the operator does not stand there,
+  chain_stop : (f p : ℕ) (t : Tree) → seen s p (sign_of op) ≡ false → chain s op o f (got p t) ≡ got p t
+  unfolding chain
+  chain_stop zero p t b = refl
+  chain_stop (suc f) p t b = rw b
+
+  -- or it does
+  chain_more : (f p : ℕ) (t : Tree) → seen s p (sign_of op) ≡ true → length s - p ≤ f → chain s op o f (got p t) ≡ chain s op o (f - 1) (join_tree op t (o (p + 1)))
+  unfolding chain
+  chain_more zero p t b m = absurd (omega (arith, seen_in s p (sign_of op) b))
+  chain_more (suc f) p t b m = let k : suc f - 1 ≡ f = omega arith in rw (k, b)
+
+  module _ (at : ℕ) (h : Gates) where
+    pub starts : (p v : ℕ) → read_at h (Ok (p, v)) ≡ emitted g (o at) → Going s op o g (level s op o at) h p v
+    unfolding level
+    starts p v e = let m = made_of g h p v (o at) e in record { fuel = length s; tree = m.tree; gates = m.gates; line = m.line; enough = omega arith; same = ap (chain s op o (length s)) (sym m.is) }
+
+    pub start_refused : (w : Why) → read_at h (Err w) ≡ emitted g (o at) → read_at h (Err w) ≡ emitted g (level s op o at)
+    unfolding level
+    start_refused w e = stays (chain s op o (length s)) (chain_bad (length s)) (chain_unk (length s)) g g h w (o at) e
+
+  -- what a loop does: an operand more, which makes h', or the end
+  module _ (a : Res) (h : Gates) (p v : ℕ) (x : Going s op o g a h p v) where
+    pub ends : seen s p (sign_of op) ≡ false → read_at h (Ok (p, v)) ≡ emitted g a
+    ends b = rw (x.gates, x.line) (ap (emitted g) (sym (chain_stop x.fuel p x.tree b) ∙ x.same))
+
+    module _ (b : seen s p (sign_of op) ≡ true) (h' : Gates) where
+      pub goes_on : (q u : ℕ) (h'' : Gates) (l : ℕ) → read_at h' (Ok (q, u)) ≡ emitted h (o (p + 1)) → p < q → h'' ≡ add_gate h' (kind_no op) v u → l ≡ new_line h'.count → Going s op o g a h'' q l
+      goes_on q u h'' l e m eh el =
+          let y = made_of h h' q u (o (p + 1)) e in
           record {
-            fuel = f;
-            so_far = join_tree op t (o (p + 1));
-            is = e;
-            enough = omega (arith, fewer p t (o (p + 1)) (seen_in s p (sign_of op) b) (adv (p + 1)));
-            same = rw b at same;
+            fuel = x.fuel - 1;
+            tree = bin op x.tree y.tree;
+            gates = bin_gates op x.tree y.tree g h h' v u x.gates x.line y.gates y.line h'' eh;
+            line = bin_line op x.tree y.tree g h h' v u x.gates x.line y.gates y.line l el;
+            enough = omega (arith, x.enough);
+            same = ap (λ (r : Res). chain s op o (x.fuel - 1) (join_tree op x.tree r)) (sym y.is) ∙ sym (chain_more x.fuel p x.tree b x.enough) ∙ x.same;
           }
 
-  lt_out : ((p : ℕ) → Past p (o p)) → (t : Tree) (p : ℕ) (x : Res) (r r' : Read) → x ≡ got p t → r ≡ emitted g x → seen s p (sign_of op) ≡ true → r' ≡ emitted g (join_tree op t (o (p + 1)))
-      → left_out s r'.out < left_out s r.out
-  lt_out adv t p x r r' ex er b e =
-      rw (e, er, ex) (omega (arith, out_left (join_tree op t (o (p + 1))), fewer p t (o (p + 1)) (seen_in s p (sign_of op) b) (adv (p + 1))))
+      pub refused_on : (w : Why) → read_at h' (Err w) ≡ emitted h (o (p + 1)) → read_at h' (Err w) ≡ emitted g a
+      refused_on w e =
+          stays (λ (r : Res). chain s op o (x.fuel - 1) (join_tree op x.tree r)) (chain_bad (x.fuel - 1)) (chain_unk (x.fuel - 1)) h g h' w (o (p + 1)) e
+          ∙ ap (emitted g) (sym (chain_more x.fuel p x.tree b x.enough) ∙ x.same)
 
-  -- one operand more: u is what was read from q on, r' what the gate made of it
-  module _ (adv : (p : ℕ) → Past p (o p)) (a : Res) (r : Read) (q v : ℕ) (u r' : Read) (w : Going s op o g a r) (e : next_of s (sign_of op) r.out ≡ On q v)
-      (eu : u ≡ emitted r.gates (o q)) (er : r' ≡ join_gate (kind_no op) v u) where
-    here : Here s (sign_of op) g w.so_far q v
-    here = on s (sign_of op) g w.so_far q v (rw w.is at e)
-
-    joined : r' ≡ emitted g (join_tree op here.tree (o (here.place + 1)))
-    joined = joined_at here.tree here.place q v w.so_far r u r' here.is here.line here.at w.is eu er
-
-    pub goes_on : Going s op o g a r'
-    goes_on = step_on adv here.tree here.place w.fuel a w.so_far r' here.is w.enough w.same here.op_there joined
-
-    pub falls_on : left_out s r'.out < left_out s r.out
-    falls_on = lt_out adv here.tree here.place w.so_far r r' here.is w.is here.op_there joined
-
--- ---- the ways of the functions that take an answer apart
-
-module _ (k v : ℕ) (r : Read) where
-  pub join_got : (p w line : ℕ) (h : Gates) → r.out ≡ Got p w → line ≡ new_line r.gates.count → h ≡ add_gate r.gates k v w → record { gates = h; out = Got p line } ≡ join_gate k v r
-  join_got p w line h e el eh = rw (e, el, eh)
-
-  pub join_bad : (q : ℕ) (f : Read) → r.out ≡ Bad q → f ≡ failed (Bad q) → f ≡ join_gate k v r
-  join_bad q f e ef = rw (e, ef)
-
-  pub join_unk : (q : ℕ) (f : Read) → r.out ≡ Unknown q → f ≡ failed (Unknown q) → f ≡ join_gate k v r
-  join_unk q f e ef = rw (e, ef)
-
-module _ (r : Read) where
-  pub neg_got : (p w line : ℕ) (h : Gates) → r.out ≡ Got p w → line ≡ new_line r.gates.count → h ≡ invert r.gates w → record { gates = h; out = Got p line } ≡ not_gate r
-  neg_got p w line h e el eh = rw (e, el, eh)
-
-  pub neg_bad : (q : ℕ) (f : Read) → r.out ≡ Bad q → f ≡ failed (Bad q) → f ≡ not_gate r
-  neg_bad q f e ef = rw (e, ef)
-
-  pub neg_unk : (q : ℕ) (f : Read) → r.out ≡ Unknown q → f ≡ failed (Unknown q) → f ≡ not_gate r
-  neg_unk q f e ef = rw (e, ef)
-
-module _ (s : List ℕ) (r : Read) where
-  pub close_got : (p w z : ℕ) → r.out ≡ Got p w → seen s p 41 ≡ true → z ≡ skip_of s (p + 1) → record { gates = r.gates; out = Got z w } ≡ close_gates s r
-  close_got p w z e b ez = rw (e, b, ez)
-
-  pub close_not : (p w : ℕ) (f : Read) → r.out ≡ Got p w → seen s p 41 ≡ false → f ≡ failed (Bad p) → f ≡ close_gates s r
-  close_not p w f e b ef = rw (e, b, ef)
-
-  pub close_bad : (q : ℕ) (f : Read) → r.out ≡ Bad q → f ≡ failed (Bad q) → f ≡ close_gates s r
-  close_bad q f e ef = rw (e, ef)
-
-  pub close_unk : (q : ℕ) (f : Read) → r.out ≡ Unknown q → f ≡ failed (Unknown q) → f ≡ close_gates s r
-  close_unk q f e ef = rw (e, ef)
-
-module _ (s : List ℕ) (b : ℕ) (o : Out) (p v : ℕ) (e : o ≡ Got p v) where
-  pub next_on : seen s p b ≡ true → On (p + 1) v ≡ next_of s b o
-  next_on h = rw (e, h)
-
-  pub next_done : seen s p b ≡ false → Done ≡ next_of s b o
-  next_done h = rw (e, h)
+-- a level that goes forward ends past where it began
+pub forth : (o : ℕ → Res) → ((p : ℕ) → Past p (o p)) → (p q v : ℕ) (g h : Gates) → read_at h (Ok (q, v)) ≡ emitted g (o p) → p < q
+forth o adv p q v g h e = rw (made_of g h q v (o p) e).is at (adv p)
 
 -- ---- each level goes forward
 
-pub name_past : (s : List ℕ) (known : ℕ → ℕ → Found) (p : ℕ) → Past p (name_by s known p)
+pub name_past : (s : List ℕ) (known : ℕ → ℕ → Option ℕ) (p : ℕ) → Past p (name_by s known p)
 unfolding name_by
 name_past s known p = by (word_end s p) (leb (word_end s p) p) refl (ltb longest (word_end s p - p)) (known p (word_end s p))
   where
-    by : (e : ℕ) (b : Bool) → leb e p ≡ b → (d : Bool) (f : Found) → Past p (cond b (bad p) (cond d (bad (p + longest)) (named s e f)))
+    by : (e : ℕ) (b : Bool) → leb e p ≡ b → (d : Bool) (f : Option ℕ) → Past p (cond b (bad p) (cond d (bad (p + longest)) (named s e f)))
     by e true w d f = omega arith
     by e false w true f = omega arith
-    by e false w false (Line v) = omega (arith, leb-false e p w, past-ge (in_class Blank) s e)
-    by e false w false Nothing = omega (arith, leb-false e p w)
+    by e false w false (Some v) = omega (arith, leb-false e p w, past-ge (in_class Blank) s e)
+    by e false w false None = omega (arith, leb-false e p w)
 
 join_past : (p : ℕ) (op : Op) (t : Tree) (x : Res) → Past p x → Past p (join_tree op t x)
 join_past p op t (got q u) h = h
@@ -327,20 +269,46 @@ module _ (s : List ℕ) (nm : ℕ → Res) (nmp : (p : ℕ) → Past p (nm p)) w
     unfolding paren_of
     paren_name r b h = h ∙ rw (e, rw e at b)
 
-    pub paren_deep : (r : Read) → d ≡ 0 → seen s p 40 ≡ true → r ≡ failed (Bad p) → r ≡ emitted g (paren_of s nm d at)
+    pub paren_deep : (r : Read) → d ≡ 0 → seen s p 40 ≡ true → r ≡ failed (Text p) → r ≡ emitted g (paren_of s nm d at)
     unfolding paren_of bracket
     paren_deep r z b h = h ∙ rw (z, e, rw e at b)
 
-    pub paren_in : (u r : Read) → (d ≡ 0 → ⊥) → seen s p 40 ≡ true → u ≡ emitted g (or_of s nm (d - 1) (p + 1)) → r ≡ close_gates s u → r ≡ emitted g (paren_of s nm d at)
-    unfolding paren_of
-    paren_in u r z b eu er =
-        let n : suc (d - 1) ≡ d = omega arith in
-        let q : bracket s nm d p ≡ paren_of s nm d at = rw (e, rw e at b) in
-        er
-        ∙ ap (close_gates s) eu
-        ∙ with_close s g (or_of s nm (d - 1) (p + 1))
-        ∙ ap (emitted g) (sym (bracket_is (d - 1) p) ∙ ap (λ (n : ℕ). bracket s nm n p) n ∙ q)
+    module _ (z : d ≡ 0 → ⊥) (b : seen s p 40 ≡ true) where
+      inside : close_tree s (or_of s nm (d - 1) (p + 1)) ≡ paren_of s nm d at
+      unfolding paren_of
+      inside =
+          let n : suc (d - 1) ≡ d = omega arith in
+          let q : bracket s nm d p ≡ paren_of s nm d at = rw (e, rw e at b) in
+          sym (bracket_is (d - 1) p) ∙ ap (λ (n : ℕ). bracket s nm n p) n ∙ q
 
-  pub not_in : (d at p : ℕ) (g : Gates) (u r : Read) → p ≡ tildes_of s at → u ≡ emitted g (paren_of s nm d p) → r ≡ wrap_with not_gate s (p - at) at u → r ≡ emitted g (not_of s nm d at)
-  unfolding not_of
-  not_in d at p g u r e eu er = er ∙ ap (wrap_with not_gate s (p - at) at) eu ∙ with_wrap s (p - at) at g (paren_of s nm d p) ∙ rw e
+      module _ (h : Gates) where
+        pub paren_refused : (w : Why) → read_at h (Err w) ≡ emitted g (or_of s nm (d - 1) (p + 1)) → read_at h (Err w) ≡ emitted g (paren_of s nm d at)
+        unfolding close_tree
+        paren_refused w k = stays (close_tree s) (λ q. refl) (λ q. refl) g g h w (or_of s nm (d - 1) (p + 1)) k ∙ ap (emitted g) inside
+
+        module _ (q v : ℕ) (k : read_at h (Ok (q, v)) ≡ emitted g (or_of s nm (d - 1) (p + 1))) where
+          pub paren_open : (r : Read) → seen s q 41 ≡ false → r ≡ failed (Text q) → r ≡ emitted g (paren_of s nm d at)
+          unfolding close_tree
+          paren_open r c f = let m = made_of g h q v (or_of s nm (d - 1) (p + 1)) k in let n : close_tree s (got q m.tree) ≡ bad q = rw c in f ∙ ap (emitted g) (sym n ∙ ap (close_tree s) (sym m.is) ∙ inside)
+
+          pub paren_closed : (l : ℕ) → seen s q 41 ≡ true → l ≡ skip_of s (q + 1) → read_at h (Ok (l, v)) ≡ emitted g (paren_of s nm d at)
+          unfolding close_tree
+          paren_closed l c f =
+              let m = made_of g h q v (or_of s nm (d - 1) (p + 1)) k in
+              let n : close_tree s (got q m.tree) ≡ got (skip_of s (q + 1)) m.tree = rw c in
+              made_is m.tree g h l (skip_of s (q + 1)) v m.gates m.line f ∙ ap (emitted g) (sym n ∙ ap (close_tree s) (sym m.is) ∙ inside)
+
+  module _ (d at p : ℕ) (g h : Gates) (e : p ≡ tildes_of s at) where
+    pub not_refused : (w : Why) → read_at h (Err w) ≡ emitted g (paren_of s nm d p) → read_at h (Err w) ≡ emitted g (not_of s nm d at)
+    unfolding not_of
+    not_refused w k = stays (wrap_with not_tree s (p - at) at) (λ q. wrap_stays s (p - at) at (bad q) refl) (λ q. wrap_stays s (p - at) at (unk q) refl) g g h w (paren_of s nm d p) k ∙ rw e
+
+    pub not_in : (q v : ℕ) (h' : Gates) (l : ℕ) → read_at h (Ok (q, v)) ≡ emitted g (paren_of s nm d p) → worked_at h' l ≡ wrap_with inverted_once s (p - at) at (worked_at h v) → read_at h' (Ok (q, l)) ≡ emitted g (not_of s nm d at)
+    unfolding not_of
+    not_in q v h' l k f =
+        let m = made_of g h q v (paren_of s nm d p) k in
+        ap (read_pair q) f
+        ∙ ap (λ (x : Gates × ℕ). read_pair q (wrap_with inverted_once s (p - at) at x)) (λ i. worked_at (m.gates i) (m.line i))
+        ∙ wrapped s q (p - at) at g m.tree
+        ∙ ap (λ (r : Res). emitted g (wrap_with not_tree s (p - at) at r)) (sym m.is)
+        ∙ rw e

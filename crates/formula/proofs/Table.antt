@@ -1,23 +1,20 @@
 -- The ways of a key, of the search in the table and of a name.
 use mathlib.Core.Path.{◌≡◌, refl, sym, ◌∙◌}
-use mathlib.Core.Bool.{Bool, true, false, cond, ◌&&◌, ◌||◌}
+use mathlib.Core.Bool.{Bool, true, false, cond, ◌&&◌}
 use mathlib.Core.List.{List}
 use Prim.Native.Nat.{ℕ, zero, suc, ◌+◌, ◌-◌, ◌≤◌, ◌<◌}
 use native.Mathlib.Omega.{arith}
-use borrow.Author.Tests.{lt-ltb, le-ltb, le-leb, lt-leb, eq-eqb, ne_eqb, ltb-true, ltb-false, eqb-false}
+use borrow.Author.Tests.{lt-ltb, le-ltb, le-leb, lt-leb, eq-eqb, ne_eqb, ltb-true, ltb-false}
 use lib.Dec.{ltb, eqb}
 use lib.ListN.{get_or}
-use Rattle.circuit.proofs.LineLaws.{or-false}
 use Rattle.formula.specs.Text.{seen}
 use Rattle.formula.specs.Names.{appended, part_of, find_from, block, in_block, Passed, input_of, or_else, low_key, high_key, few_names, look_up, name_by}
 use Rattle.formula.specs.Text.{skip_of, word_end}
 use Rattle.formula.specs.Sizes.{most_names, longest}
-use Rattle.formula.specs.Emit.{use_line, failed, emitted}
+use Rattle.formula.specs.Emit.{use_line, Read, read_at, failed, emitted}
 use Rattle.formula.specs.declared.Gates.{Gates}
-use Rattle.formula.specs.declared.Read.{Read}
-use Rattle.formula.specs.declared.Out.TheVariants.{Got, Bad, Unknown}
-use Rattle.formula.specs.declared.Found.{Found}
-use Rattle.formula.specs.declared.Found.TheVariants.{Line, Nothing}
+use Rattle.formula.specs.declared.Why.TheVariants.{Text, Name}
+use Rattle.std.specs.Prelude.{Option, Some, None, Ok}
 
 -- ---- a key
 
@@ -41,12 +38,12 @@ few-names n = by (ltb n most_names) refl
     by false w = omega arith
 
 module _ (low high ls : List ℕ) (a b n i : ℕ) where
-  pub find_end : n ≤ i → find_from low high ls a b (n - i) i ≡ Nothing
+  pub find_end : n ≤ i → find_from low high ls a b (n - i) i ≡ None
   unfolding find_from
   find_end h = let k : n - i ≡ 0 = omega arith in rw k
 
   module _ (h : i < n) where
-    pub find_hit : eqb (get_or low i 0) a && eqb (get_or high i 0) b ≡ true → find_from low high ls a b (n - i) i ≡ Line (get_or ls i 0)
+    pub find_hit : eqb (get_or low i 0) a && eqb (get_or high i 0) b ≡ true → find_from low high ls a b (n - i) i ≡ Some (get_or ls i 0)
     unfolding find_from
     find_hit e = let k : n - i ≡ suc (n - (i + 1)) = omega arith in rw (k, e)
 
@@ -57,15 +54,15 @@ module _ (low high ls : List ℕ) (a b n i : ℕ) where
 -- a place that has not the key
 module _ (low high ls : List ℕ) (a b : ℕ) where
   -- f places without the key are passed
-  none_found : (f i : ℕ) → ((k : ℕ) → i ≤ k → k < i + f → eqb (get_or low k 0) a && eqb (get_or high k 0) b ≡ false) → find_from low high ls a b f i ≡ Nothing
+  none_found : (f i : ℕ) → ((k : ℕ) → i ≤ k → k < i + f → eqb (get_or low k 0) a && eqb (get_or high k 0) b ≡ false) → find_from low high ls a b f i ≡ None
   unfolding find_from
   none_found zero i h = refl
   none_found (suc f) i h = rw (h i (omega arith) (omega arith)) (none_found f (i + 1) (λ k l m. h k (omega arith) (omega arith)))
 
-  pub low_passed : (i j f : ℕ) → Passed low a i j → i + f ≤ j → find_from low high ls a b f i ≡ Nothing
+  pub low_passed : (i j f : ℕ) → Passed low a i j → i + f ≤ j → find_from low high ls a b f i ≡ None
   low_passed i j f w h = none_found f i (λ k l m. rw (ne_eqb _ _ (w k l (omega arith))))
 
-  pub high_passed : (i j f : ℕ) → Passed high b i j → i + f ≤ j → find_from low high ls a b f i ≡ Nothing
+  pub high_passed : (i j f : ℕ) → Passed high b i j → i + f ≤ j → find_from low high ls a b f i ≡ None
   high_passed i j f w h = none_found f i (λ k l m. both_false (eqb (get_or low k 0) a) _ (ne_eqb _ _ (w k l (omega arith))))
     where
       both_false : (x y : Bool) → y ≡ false → x && y ≡ false
@@ -79,7 +76,7 @@ module _ (low high ls : List ℕ) (a b : ℕ) where
   find_split (suc f) g i = let s : suc f + g ≡ suc (f + g) = omega arith in rw s (by (eqb (get_or low i 0) a && eqb (get_or high i 0) b) (find_split f g (i + 1)))
     where
       by : (t : Bool) → find_from low high ls a b (f + g) (i + 1) ≡ or_else (find_from low high ls a b f (i + 1)) (find_from low high ls a b g (i + 1 + f))
-          → cond t (Line (get_or ls i 0)) (find_from low high ls a b (f + g) (i + 1)) ≡ or_else (cond t (Line (get_or ls i 0)) (find_from low high ls a b f (i + 1))) (find_from low high ls a b g (i + suc f))
+          → cond t (Some (get_or ls i 0)) (find_from low high ls a b (f + g) (i + 1)) ≡ or_else (cond t (Some (get_or ls i 0)) (find_from low high ls a b f (i + 1))) (find_from low high ls a b g (i + suc f))
       by true h = refl
       by false h = let z : i + 1 + f ≡ i + suc f = omega arith in h ∙ rw z
 
@@ -97,96 +94,69 @@ module _ (low high ls : List ℕ) (a b n i : ℕ) where
   unfolding find_from in_block
   find_block = by (ltb (n - i) block) refl
     where
-      alone : (f : Found) → f ≡ or_else f Nothing
-      alone (Line v) = refl
-      alone Nothing = refl
+      alone : (f : Option ℕ) → f ≡ or_else f None
+      alone (Some v) = refl
+      alone None = refl
 
       by : (t : Bool) → ltb (n - i) block ≡ t
           → find_from low high ls a b (n - i) i ≡ or_else (find_from low high ls a b (cond t (n - i) block) i) (find_from low high ls a b (n - (i + block)) (i + block))
       by true e = let z : n - (i + block) ≡ 0 = omega (arith, ltb-true (n - i) block e) in rw z (alone (find_from low high ls a b (n - i) i))
       by false e = let z : n - i ≡ block + (n - (i + block)) = omega (arith, ltb-false (n - i) block e) in rw z (find_split low high ls a b block (n - (i + block)) i)
 
-  pub block_hit : (f : Found) (v : ℕ) → f ≡ find_from low high ls a b (in_block (n - i)) i → f ≡ Line v → find_from low high ls a b (n - i) i ≡ f
+  pub block_hit : (f : Option ℕ) (v : ℕ) → f ≡ find_from low high ls a b (in_block (n - i)) i → f ≡ Some v → find_from low high ls a b (n - i) i ≡ f
   block_hit f v e k = find_block ∙ rw (← e, k)
 
-  pub block_miss : (f : Found) (j : ℕ) → f ≡ find_from low high ls a b (in_block (n - i)) i → f ≡ Nothing → j ≡ i + block → find_from low high ls a b (n - i) i ≡ find_from low high ls a b (n - j) j
+  pub block_miss : (f : Option ℕ) (j : ℕ) → f ≡ find_from low high ls a b (in_block (n - i)) i → f ≡ None → j ≡ i + block → find_from low high ls a b (n - i) i ≡ find_from low high ls a b (n - j) j
   block_miss f j e k z = find_block ∙ rw (← e, k, z)
-
--- places that have not the half are passed
-module _ (l : List ℕ) (a : ℕ) where
-  passed_one : (i j : ℕ) → j ≡ i + 1 → eqb (get_or l i 0) a ≡ false → Passed l a i j
-  passed_one i j e h k from to = let z : k ≡ i = omega arith in rw z (eqb-false _ _ h)
-
-  passed_on : (i j k : ℕ) → Passed l a i j → Passed l a j k → Passed l a i k
-  passed_on i j k v w m from to = by (ltb m j) refl
-    where
-      by : (t : Bool) → ltb m j ≡ t → get_or l m 0 ≡ a → ⊥
-      by true e = v m from (ltb-true _ _ e)
-      by false e = w m (ltb-false _ _ e) to
-
-  pub four_passed : (i : ℕ) → eqb (get_or l i 0) a || eqb (get_or l (i + 1) 0) a || eqb (get_or l (i + 2) 0) a || eqb (get_or l (i + 3) 0) a ≡ false → Passed l a i (i + 4)
-  four_passed i e =
-      let z = or-false _ _ e in
-      let y = or-false _ _ z.0 in
-      let x = or-false _ _ y.0 in
-      passed_on i (i + 3) (i + 4)
-      (passed_on i (i + 2) (i + 3) (passed_on i (i + 1) (i + 2) (passed_one i (i + 1) refl x.0) (passed_one (i + 1) (i + 2) (omega arith) x.1)) (passed_one (i + 2) (i + 3) (omega arith) y.1))
-      (passed_one (i + 3) (i + 4) (omega arith) z.1)
-
-  pub eight_passed : (i : ℕ) (x y : Bool) → (x ≡ false → Passed l a i (i + 4)) → (y ≡ false → Passed l a (i + 4) (i + 4 + 4)) → x || y ≡ false → Passed l a i (i + block)
-  eight_passed i x y v w e =
-      let z = or-false x y e in
-      let n : i + 4 + 4 ≡ i + block = omega arith in
-      passed_on i (i + 4) (i + block) (v z.0) (rw (← n) (w z.1))
 
 -- ---- an input
 
 module _ (s : List ℕ) (p e k : ℕ) (size : k ≡ e - p) where
-  pub input_size : (k ≡ 2 → ⊥) → Nothing ≡ input_of s p e
+  pub input_size : (k ≡ 2 → ⊥) → None ≡ input_of s p e
   unfolding input_of
   input_size h = rw (← size, ne_eqb _ _ h)
 
   module _ (h : k ≡ 2) where
-    pub input_letter : seen s p 120 ≡ false → Nothing ≡ input_of s p e
+    pub input_letter : seen s p 120 ≡ false → None ≡ input_of s p e
     unfolding input_of
     input_letter b = rw (← size, eq-eqb _ _ h, b)
 
     module _ (b : seen s p 120 ≡ true) (d : ℕ) (at : d ≡ get_or s (p + 1) 0) where
-      pub input_below : d < 48 → Nothing ≡ input_of s p e
+      pub input_below : d < 48 → None ≡ input_of s p e
       unfolding input_of
       input_below w = rw (← size, eq-eqb _ _ h, b, ← at, lt-leb _ _ w)
 
-      pub input_above : 48 ≤ d → 55 < d → Nothing ≡ input_of s p e
+      pub input_above : 48 ≤ d → 55 < d → None ≡ input_of s p e
       unfolding input_of
       input_above l w = rw (← size, eq-eqb _ _ h, b, ← at, le-leb _ _ l, lt-leb _ _ w)
 
-      pub input_is : 48 ≤ d → d ≤ 55 → Line (d - 48) ≡ input_of s p e
+      pub input_is : 48 ≤ d → d ≤ 55 → Some (d - 48) ≡ input_of s p e
       unfolding input_of
       input_is l w = rw (← size, eq-eqb _ _ h, b, ← at, le-leb _ _ l, le-leb _ _ w)
 
 module _ (s low high ls : List ℕ) (n p e : ℕ) where
-  pub look_input : (v : ℕ) (f : Found) → f ≡ input_of s p e → f ≡ Line v → Line v ≡ look_up s low high ls n p e
+  pub look_input : (v : ℕ) (f : Option ℕ) → f ≡ input_of s p e → f ≡ Some v → Some v ≡ look_up s low high ls n p e
   unfolding look_up
   look_input v f h k = rw (sym h ∙ k)
 
-  pub look_table : (f r : Found) (a b : ℕ) → f ≡ input_of s p e → f ≡ Nothing → a ≡ low_key s p e → b ≡ high_key s p e → r ≡ find_from low high ls a b (few_names n) 0 → r ≡ look_up s low high ls n p e
+  pub look_table : (f r : Option ℕ) (a b : ℕ) → f ≡ input_of s p e → f ≡ None → a ≡ low_key s p e → b ≡ high_key s p e → r ≡ find_from low high ls a b (few_names n) 0 → r ≡ look_up s low high ls n p e
   unfolding look_up
   look_table f r a b h k ea eb q = q ∙ rw (sym h ∙ k, ea, eb)
 
-module _ (s : List ℕ) (known : ℕ → ℕ → Found) (p e : ℕ) (g : Gates) (at : e ≡ word_end s p) where
-  pub name_none : (r : Read) → e ≤ p → r ≡ failed (Bad p) → r ≡ emitted g (name_by s known p)
+module _ (s : List ℕ) (known : ℕ → ℕ → Option ℕ) (p e : ℕ) (g : Gates) (at : e ≡ word_end s p) where
+  pub name_none : (r : Read) → e ≤ p → r ≡ failed (Text p) → r ≡ emitted g (name_by s known p)
   unfolding name_by
   name_none r h k = k ∙ rw (← at, le-leb _ _ h)
 
-  pub name_long : (r : Read) → p < e → longest < e - p → r ≡ failed (Bad (p + longest)) → r ≡ emitted g (name_by s known p)
+  pub name_long : (r : Read) → p < e → longest < e - p → r ≡ failed (Text (p + longest)) → r ≡ emitted g (name_by s known p)
   unfolding name_by
   name_long r h l k = k ∙ rw (← at, lt-leb _ _ h, lt-ltb _ _ l)
 
-  pub name_found : (f : Found) (v z : ℕ) (h : Gates) → p < e → e - p ≤ longest → f ≡ known p e → f ≡ Line v → h ≡ use_line g v → z ≡ skip_of s e
-      → record { gates = h; out = Got z v } ≡ emitted g (name_by s known p)
+  pub name_found : (f : Option ℕ) (v z : ℕ) (h : Gates) → p < e → e - p ≤ longest → f ≡ known p e → f ≡ Some v → h ≡ use_line g v → z ≡ skip_of s e
+      → read_at h (Ok (z, v)) ≡ emitted g (name_by s known p)
   unfolding name_by
   name_found f v z h a b q w eh ez = rw (← at, lt-leb _ _ a, le-ltb _ _ b, sym q ∙ w, eh, ez)
 
-  pub name_unknown : (f : Found) (r : Read) → p < e → e - p ≤ longest → f ≡ known p e → f ≡ Nothing → r ≡ failed (Unknown (e - 1)) → r ≡ emitted g (name_by s known p)
+  pub name_unknown : (f : Option ℕ) (r : Read) → p < e → e - p ≤ longest → f ≡ known p e → f ≡ None → r ≡ failed (Name (e - 1)) → r ≡ emitted g (name_by s known p)
   unfolding name_by
   name_unknown f r a b q w k = k ∙ rw (← at, lt-leb _ _ a, le-ltb _ _ b, sym q ∙ w)

@@ -1,271 +1,145 @@
 // The five levels of a formula, loosest first: or, xor, and, not, and what is bracketed or a name. A level begins anywhere
-// and ends past the spaces after it. Brackets call the loosest level again; what falls is the nesting that is left, and the
-// bytes left in each loop.
+// and ends past the spaces after it: it gives where the text goes on, and the formula's line. Brackets call the loosest level
+// again; what falls is the nesting that is left, and the bytes left in each loop. A refusal clears the gates where it is made.
+// Three levels are alike: the five stay functions of one cycle, in which a closure gets no proof.
 ghost use Rattle.std.specs.Prelude.{◌≡◌, ◌-◌};
 ghost use Rattle.formula.specs.Text.{wrap_with};
-ghost use Rattle.formula.specs.Names.{name_of};
-ghost use Rattle.formula.specs.Emit.{gates_at, read_at, failed, join_gate, not_gate, close_gates, next_of, emitted};
+ghost use Rattle.formula.specs.Names.{name_in};
+ghost use Rattle.formula.specs.Emit.{read_at, inverted_once, worked_at, emitted};
 ghost use Rattle.formula.specs.Levels.{paren_of, not_of, and_of, xor_of, or_of};
 
-use crate::emit::{add_gate, add_not, clear, new_line, use_line};
-use crate::names::look_up;
 use crate::text::{scan, sees};
-use crate::{Answer, Class, Found, LONGEST, NAMES, Next, Out, Rows, Tip};
+use crate::{Class, Gates, LONGEST, Names, Why};
 
-// A refusal, with no gates beside it.
-fn fail(rows: &mut Rows, out: Out) -> Answer
-    ensures { read_at rows.new result ≡ failed out }
+// A NOT of line v for each ~ from `at` to `to`, and the last one's line.
+fn wrap(s: &[u8], at: usize, to: usize, gates: &mut Gates, v: u8) -> u8
+    ensures { worked_at gates.new result ≡ wrap_with inverted_once s.now (to - at) at (worked_at gates.old v) }
 {
-    let tip = clear(rows);
-    Answer { tip, out }
-}
-
-// A gate over v and what was read; a refusal stays.
-fn join(rows: &mut Rows, kind: u8, v: u8, q: Answer) -> Answer
-    ensures { read_at rows.new result ≡ join_gate kind v (read_at rows.old q) }
-{
-    let out = q.out;
-    match out {
-        Out::Got(p, w) => {
-            let t = q.tip;
-            let line = new_line(t.count);
-            let tip = add_gate(rows, t, kind, v, w);
-            let out = Out::Got(p, line);
-            Answer { tip, out }
-        }
-        Out::Bad(e) => fail(rows, Out::Bad(e)),
-        Out::Unknown(e) => fail(rows, Out::Unknown(e)),
-    }
-}
-
-// A NOT of what was read; a refusal stays.
-fn negate(rows: &mut Rows, q: Answer) -> Answer
-    ensures { read_at rows.new result ≡ not_gate (read_at rows.old q) }
-{
-    let out = q.out;
-    match out {
-        Out::Got(p, w) => {
-            let t = q.tip;
-            let line = new_line(t.count);
-            let tip = add_not(rows, t, w);
-            let out = Out::Got(p, line);
-            Answer { tip, out }
-        }
-        Out::Bad(e) => fail(rows, Out::Bad(e)),
-        Out::Unknown(e) => fail(rows, Out::Unknown(e)),
-    }
-}
-
-// A NOT for each ~ from `at` to `to`.
-fn wrap(s: &[u8], at: usize, to: usize, rows: &mut Rows, q: Answer) -> Answer
-    ensures { read_at rows.new result ≡ wrap_with not_gate s.now (to - at) at (read_at rows.old q) }
-{
-    let mut r = q;
-    let mut i = at;
-    while i < to {
+    let mut line = v;
+    for i in at..to {
         if sees(s, i, b'~') {
-            r = negate(rows, r);
+            line = gates.add_not(line);
         }
-        i += 1;
     }
-    r
-}
-
-// A closing bracket after what was read, and the spaces after it.
-fn close(s: &[u8], rows: &mut Rows, q: Answer) -> Answer
-    ensures { read_at rows.new result ≡ close_gates s.now (read_at rows.old q) }
-{
-    let out = q.out;
-    match out {
-        Out::Got(p, w) => {
-            if sees(s, p, b')') {
-                let tip = q.tip;
-                let out = Out::Got(scan(s, p + 1, Class::Blank), w);
-                Answer { tip, out }
-            } else {
-                fail(rows, Out::Bad(p))
-            }
-        }
-        Out::Bad(e) => fail(rows, Out::Bad(e)),
-        Out::Unknown(e) => fail(rows, Out::Unknown(e)),
-    }
+    line
 }
 
 // A name, and the spaces after it.
-fn name(
-    s: &[u8],
-    low: &[u64; NAMES],
-    high: &[u64; NAMES],
-    lines: &[u8; NAMES],
-    n: usize,
-    p: usize,
-    rows: &mut Rows,
-    t: Tip,
-) -> Answer
-    ensures { read_at rows.new result ≡ emitted (gates_at rows.old t) (name_of s.now low.now high.now lines.now n p) }
+fn name(s: &[u8], names: &Names, p: usize, gates: &mut Gates) -> Result<(usize, u8), Why>
+    ensures { read_at gates.new result ≡ emitted gates.old (name_in s.now names.now p) }
 {
     let e = scan(s, p, Class::Letter);
     if e <= p {
-        return fail(rows, Out::Bad(p));
+        return Err(gates.fail(Why::Text(p)));
     }
     if LONGEST < e - p {
-        return fail(rows, Out::Bad(p + LONGEST));
+        return Err(gates.fail(Why::Text(p + LONGEST)));
     }
-    match look_up(s, low, high, lines, n, p, e) {
-        Found::Line(v) => {
-            let tip = use_line(t, v);
-            let out = Out::Got(scan(s, e, Class::Blank), v);
-            Answer { tip, out }
-        }
-        Found::Nothing => fail(rows, Out::Unknown(e - 1)),
-    }
-}
-
-// Past the operator of this byte where it stands after what was read, with the line that was read before it.
-fn after_op(s: &[u8], out: Out, op: u8) -> Next
-    ensures { result ≡ next_of s.now op out }
-{
-    match out {
-        Out::Got(p, v) => {
-            if sees(s, p, op) {
-                Next::On(p + 1, v)
-            } else {
-                Next::Done
-            }
-        }
-        Out::Bad(_) => Next::Done,
-        Out::Unknown(_) => Next::Done,
-    }
+    let Some(v) = names.look_up(s, p, e) else {
+        return Err(gates.fail(Why::Name(e - 1)));
+    };
+    gates.use_line(v);
+    Ok((scan(s, e, Class::Blank), v))
 }
 
 // A bracketed formula, while there is nesting left, or a name.
 #[cycle(read)]
 fn read_paren(
     s: &[u8],
-    low: &[u64; NAMES],
-    high: &[u64; NAMES],
-    lines: &[u8; NAMES],
-    n: usize,
+    names: &Names,
     at: usize,
     left: usize,
-    rows: &mut Rows,
-    t: Tip,
-) -> Answer
-    ensures { read_at rows.new result ≡ emitted (gates_at rows.old t) (paren_of s.now (name_of s.now low.now high.now lines.now n) left at) }
+    gates: &mut Gates,
+) -> Result<(usize, u8), Why>
+    ensures { read_at gates.new result ≡ emitted gates.old (paren_of s.now (name_in s.now names.now) left at) }
 {
     let p = scan(s, at, Class::Blank);
-    if sees(s, p, b'(') {
-        if left == 0 {
-            return fail(rows, Out::Bad(p));
-        }
-        let r = read_or(s, low, high, lines, n, p + 1, left - 1, rows, t);
-        close(s, rows, r)
-    } else {
-        name(s, low, high, lines, n, p, rows, t)
+    if !sees(s, p, b'(') {
+        return name(s, names, p, gates);
     }
+    if left == 0 {
+        return Err(gates.fail(Why::Text(p)));
+    }
+    let (q, v) = read_or(s, names, p + 1, left - 1, gates)?;
+    if !sees(s, q, b')') {
+        return Err(gates.fail(Why::Text(q)));
+    }
+    Ok((scan(s, q + 1, Class::Blank), v))
 }
 
 // Any number of ~ before one of those.
 #[cycle(read)]
 fn read_not(
     s: &[u8],
-    low: &[u64; NAMES],
-    high: &[u64; NAMES],
-    lines: &[u8; NAMES],
-    n: usize,
+    names: &Names,
     at: usize,
     left: usize,
-    rows: &mut Rows,
-    t: Tip,
-) -> Answer
-    ensures { read_at rows.new result ≡ emitted (gates_at rows.old t) (not_of s.now (name_of s.now low.now high.now lines.now n) left at) }
+    gates: &mut Gates,
+) -> Result<(usize, u8), Why>
+    ensures { read_at gates.new result ≡ emitted gates.old (not_of s.now (name_in s.now names.now) left at) }
 {
     let p = scan(s, at, Class::Tilde);
-    let r = read_paren(s, low, high, lines, n, p, left, rows, t);
-    wrap(s, at, p, rows, r)
+    let (q, v) = read_paren(s, names, p, left, gates)?;
+    Ok((q, wrap(s, at, p, gates, v)))
 }
 
 // Operands of & from the left.
 #[cycle(read)]
 fn read_and(
     s: &[u8],
-    low: &[u64; NAMES],
-    high: &[u64; NAMES],
-    lines: &[u8; NAMES],
-    n: usize,
+    names: &Names,
     at: usize,
     left: usize,
-    rows: &mut Rows,
-    t: Tip,
-) -> Answer
-    ensures { read_at rows.new result ≡ emitted (gates_at rows.old t) (and_of s.now (name_of s.now low.now high.now lines.now n) left at) }
+    gates: &mut Gates,
+) -> Result<(usize, u8), Why>
+    ensures { read_at gates.new result ≡ emitted gates.old (and_of s.now (name_in s.now names.now) left at) }
 {
-    let mut r = read_not(s, low, high, lines, n, at, left, rows, t);
-    loop {
-        let out = r.out;
-        let step = after_op(s, out, b'&');
-        let Next::On(p, v) = step else {
-            return r;
-        };
-        let u = r.tip;
-        let q = read_not(s, low, high, lines, n, p, left, rows, u);
-        r = join(rows, 2, v, q);
+    let (mut p, mut v) = read_not(s, names, at, left, gates)?;
+    while sees(s, p, b'&') {
+        let (q, w) = read_not(s, names, p + 1, left, gates)?;
+        v = gates.add_gate(2, v, w);
+        p = q;
     }
+    Ok((p, v))
 }
 
 // Operands of ^ from the left.
 #[cycle(read)]
 fn read_xor(
     s: &[u8],
-    low: &[u64; NAMES],
-    high: &[u64; NAMES],
-    lines: &[u8; NAMES],
-    n: usize,
+    names: &Names,
     at: usize,
     left: usize,
-    rows: &mut Rows,
-    t: Tip,
-) -> Answer
-    ensures { read_at rows.new result ≡ emitted (gates_at rows.old t) (xor_of s.now (name_of s.now low.now high.now lines.now n) left at) }
+    gates: &mut Gates,
+) -> Result<(usize, u8), Why>
+    ensures { read_at gates.new result ≡ emitted gates.old (xor_of s.now (name_in s.now names.now) left at) }
 {
-    let mut r = read_and(s, low, high, lines, n, at, left, rows, t);
-    loop {
-        let out = r.out;
-        let step = after_op(s, out, b'^');
-        let Next::On(p, v) = step else {
-            return r;
-        };
-        let u = r.tip;
-        let q = read_and(s, low, high, lines, n, p, left, rows, u);
-        r = join(rows, 0, v, q);
+    let (mut p, mut v) = read_and(s, names, at, left, gates)?;
+    while sees(s, p, b'^') {
+        let (q, w) = read_and(s, names, p + 1, left, gates)?;
+        v = gates.add_gate(0, v, w);
+        p = q;
     }
+    Ok((p, v))
 }
 
-// Operands of | from the left: a whole formula, over the first n names of the table, with so many levels of brackets left. Its
-// gates go after those in the rows.
+// Operands of | from the left: a whole formula, over the names of the table, with so many levels of brackets left. Its gates
+// go after those that are there.
 #[cycle(read)]
 pub fn read_or(
     s: &[u8],
-    low: &[u64; NAMES],
-    high: &[u64; NAMES],
-    lines: &[u8; NAMES],
-    n: usize,
+    names: &Names,
     at: usize,
     left: usize,
-    rows: &mut Rows,
-    t: Tip,
-) -> Answer
-    ensures { read_at rows.new result ≡ emitted (gates_at rows.old t) (or_of s.now (name_of s.now low.now high.now lines.now n) left at) }
+    gates: &mut Gates,
+) -> Result<(usize, u8), Why>
+    ensures { read_at gates.new result ≡ emitted gates.old (or_of s.now (name_in s.now names.now) left at) }
 {
-    let mut r = read_xor(s, low, high, lines, n, at, left, rows, t);
-    loop {
-        let out = r.out;
-        let step = after_op(s, out, b'|');
-        let Next::On(p, v) = step else {
-            return r;
-        };
-        let u = r.tip;
-        let q = read_xor(s, low, high, lines, n, p, left, rows, u);
-        r = join(rows, 4, v, q);
+    let (mut p, mut v) = read_xor(s, names, at, left, gates)?;
+    while sees(s, p, b'|') {
+        let (q, w) = read_xor(s, names, p + 1, left, gates)?;
+        v = gates.add_gate(4, v, w);
+        p = q;
     }
+    Ok((p, v))
 }

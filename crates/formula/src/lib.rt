@@ -4,7 +4,7 @@
 use circuit::GATES;
 
 pub mod text; // text.rt: bytes at places of a text, and runs of them
-pub mod names; // names.rt: inputs, and the table of names that were set
+pub mod keys; // keys.rt: inputs, and the search in the table of names
 pub mod emit; // emit.rt: the gates that operators make
 pub mod levels; // levels.rt: the five levels of a formula, which call round
 
@@ -28,28 +28,9 @@ pub enum Class {
     Letter,
 }
 
-// While a file is read its gates stand in rows, which are lent to whoever adds one: the kinds, and the operands on the left
-// and on the right.
-pub const KINDS: usize = 0;
-
-pub const LEFT: usize = 1;
-
-pub const RIGHT: usize = 2;
-
-pub type Rows = [[u8; GATES]; 3];
-
-// What is known of the gates in the rows: how many there are; `high` is one more than the highest input that was read.
-// `fold`: what was read last is a binary operator's gate. `odd`: some ~ stood before anything else.
-#[derive(Clone, Copy)]
-pub struct Tip {
-    pub count: usize,
-    pub high: u8,
-    pub fold: bool,
-    pub odd: bool,
-}
-
 // Gates in the order in which they were made. An operand is an input's number, or 8 and a gate's number: how many inputs
-// there are is not known before the file's end. The rest is as in `Tip`.
+// there are is not known before the file's end. `high` is one more than the highest input that was read. `fold`: what was
+// read last is a binary operator's gate. `odd`: some ~ stood before anything else.
 #[derive(Clone, Copy)]
 pub struct Gates {
     pub kinds: [u8; GATES],
@@ -61,39 +42,19 @@ pub struct Gates {
     pub odd: bool,
 }
 
-// What is known of a name: its line, or nothing.
+// The table of the names that were set: each by its key, which is two numbers, and its line. It is in columns, so that a search
+// compares eight halves of keys at a time.
 #[derive(Clone, Copy)]
-pub enum Found {
-    Line(u8),
-    Nothing,
+pub struct Names {
+    pub low: [u64; NAMES],
+    pub high: [u64; NAMES],
+    pub lines: [u8; NAMES],
+    pub n: usize,
 }
 
-// What a level answers: where the text goes on and the formula's line; or the place of bad text; or the last byte of a
-// name that is not known.
+// Why a text is refused: it is bad at this place (15), or a name that ends with this byte is not known or may not be set (16).
 #[derive(Clone, Copy)]
-pub enum Out {
-    Got(usize, u8),
-    Bad(usize),
-    Unknown(usize),
-}
-
-// What a level answers, and what is known of the gates in the rows after it.
-#[derive(Clone, Copy)]
-pub struct Answer {
-    pub tip: Tip,
-    pub out: Out,
-}
-
-// An answer and all its gates: what the contracts speak of.
-#[derive(Clone, Copy)]
-pub struct Read {
-    pub gates: Gates,
-    pub out: Out,
-}
-
-// After an operand: past the operator, with the line that was read before it; or the level ends.
-#[derive(Clone, Copy)]
-pub enum Next {
-    On(usize, u8),
-    Done,
+pub enum Why {
+    Text(usize),
+    Name(usize),
 }

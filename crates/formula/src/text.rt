@@ -8,57 +8,39 @@ use crate::Class;
 pub fn byte_at(s: &[u8], p: usize) -> u8
     ensures { result ≡ get_or s.now p 0 }
 {
-    if p < s.len() { s[p] } else { 0 }
+    s.get(p).copied().unwrap_or(0)
 }
 
 // Whether byte b stands at p.
 pub fn sees(s: &[u8], p: usize, b: u8) -> bool
     ensures { Seen s.now p b result }
 {
-    if p < s.len() { s[p] == b } else { false }
+    p < s.len() && s[p] == b
 }
 
 // How many places there are from p to e.
 pub fn span(p: usize, e: usize) -> usize
     ensures { result ≡ e - p }
 {
-    if p < e { e - p } else { 0 }
+    e.saturating_sub(p)
 }
 
 // A letter or a digit.
+#[tactic(auto, unfolding(crate::specs::Text::is_letter))]
 fn is_letter(b: u8) -> bool
     ensures { result ≡ is_letter b }
 {
-    if b < b'0' {
-        return false;
-    }
-    if b <= b'9' {
-        return true;
-    }
-    if b < b'A' {
-        return false;
-    }
-    if b <= b'Z' {
-        return true;
-    }
-    if b < b'a' {
-        return false;
-    }
-    b <= b'z'
+    matches!(b, b'0'..=b'9' | b'A'..=b'Z' | b'a'..=b'z')
 }
 
 // Whether a byte is in a class.
+#[tactic(auto, unfolding(crate::specs::Text::in_class))]
 fn in_class(c: Class, b: u8) -> bool
     ensures { result ≡ in_class c b }
 {
     match c {
         Class::Blank => b == b' ',
-        Class::Tilde => {
-            if b == b' ' {
-                return true;
-            }
-            b == b'~'
-        }
+        Class::Tilde => b == b' ' || b == b'~',
         Class::Letter => is_letter(b),
     }
 }
@@ -67,11 +49,9 @@ fn in_class(c: Class, b: u8) -> bool
 pub fn scan(s: &[u8], at: usize, c: Class) -> usize
     ensures { result ≡ past (in_class c) s.now at }
 {
+    // The place where the loop stops is the answer, so no `for` is plainer.
     let mut p = at;
-    while p < s.len() {
-        if !in_class(c, s[p]) {
-            return p;
-        }
+    while p < s.len() && in_class(c, s[p]) {
         p += 1;
     }
     p

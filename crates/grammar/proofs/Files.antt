@@ -1,4 +1,5 @@
 -- A text has one reading as a file at most.
+use Rattle.std.specs.Prelude.{Some}
 use mathlib.Core.Path.{◌≡◌, refl, sym, ap, subst, ◌∙◌}
 use mathlib.Core.Bool.{Bool, true, false, cond}
 use mathlib.Core.List.{List, ◌∷◌}
@@ -12,7 +13,6 @@ use Rattle.formula.specs.Text.{seen, is_letter, in_class, skip_of, word_end}
 use Rattle.formula.specs.Tree.{got}
 use Rattle.formula.specs.Levels.{or_of}
 use Rattle.formula.specs.declared.Class.TheVariants.{Blank, Letter}
-use Rattle.formula.specs.declared.Found.TheVariants.{Line}
 use Rattle.formula.proofs.Laws.{past-ge, past_in, past_miss, seen_in}
 use Rattle.formula.proofs.Reading.{Past, name_past, or-past}
 use Rattle.grammar.specs.Grammar.{Ended}
@@ -22,7 +22,7 @@ use Rattle.grammar.proofs.Unique.{got_is, past_got, ended_by, formula-found}
 
 module _ (s : List ℕ) where
   pub any_past : (p : ℕ) → Past p (any_name s p)
-  any_past = name_past s (λ p e. Line p)
+  any_past = name_past s (λ p e. Some p)
 
   -- no operator stands where a line ends
   pub line-ended : (z : ℕ) → line_ends s z ≡ true → Ended s z

@@ -1,16 +1,16 @@
 -- An equation file as a relation on the text: blank lines and assignments, whatever the names are; and the place of the
 -- first byte that no good text has there. A name is the place where it stands.
+use Rattle.std.specs.Prelude.{Some}
 use Rattle.std.specs.Prelude.{◌≡◌, Bool, true, cond, List, [], ◌∷◌, ◌++◌, ℕ, suc, ◌+◌, ◌≤◌, ◌<◌, ltb, eqb, length, get_or, take}
 use Rattle.formula.specs.Sizes.{most_names, longest, nesting}
 use Rattle.formula.specs.Text.{seen, skip_of, word_end}
 use Rattle.formula.specs.Tree.{Tree, Res}
 use Rattle.formula.specs.Names.{name_by}
-use Rattle.formula.specs.declared.Found.TheVariants.{Line}
 use Rattle.grammar.specs.Grammar.{Formula}
 
 -- the name at p, whatever it is: its leaf is p
 abbrev pub any_name : List ℕ → ℕ → Res
-any_name s = name_by s (λ p e. Line p)
+any_name s = name_by s (λ p e. Some p)
 
 -- a line ends at z: with LF, or with the text
 unfoldable pub line_ends : List ℕ → ℕ → Bool

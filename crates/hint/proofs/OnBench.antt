@@ -1,4 +1,5 @@
 -- From what a bench holds to the hint of its state. Assumes nothing.
+use Rattle.std.specs.Prelude.{Err}
 use mathlib.Core.Path.{◌≡◌, refl, ap, ap₂, ◌∙◌, sym}
 use mathlib.Core.Bool.{Bool, true, false, cond, true≢false}
 use mathlib.Core.List.{List, [], ◌∷◌, ◌++◌}
@@ -22,11 +23,10 @@ use Rattle.targets.proofs.Bytes.{row_read, rows_back}
 use Rattle.bench.specs.declared.Bench.{Bench}
 use Rattle.bench.specs.State.{State, Present}
 use Rattle.bench.specs.Held.{full_bench}
-use Rattle.bench.specs.Parts.{gate_on}
+use Rattle.bench.specs.Parts.{gate_on, open_on}
 use Rattle.bench.proofs.Standing.{gate-of}
-use Rattle.bench.proofs.Stood.{open_on, when-open, when_shut}
-use Rattle.hint.specs.declared.Hinted.{Hinted}
-use Rattle.hint.specs.Hint.{depths_of, shallow, picked, hint_answer, hinted, no_hint, hint_for, hint_under, hint_of, HintPromise}
+use Rattle.bench.proofs.Stood.{when-open, when_shut}
+use Rattle.hint.specs.Hint.{depths_of, shallow, picked, Hinted, hint_answer, hinted, hint_for, hint_under, hint_of, HintPromise}
 use Rattle.hint.specs.Parts.{masks_on, hint_on, is_row}
 
 -- zeros past the last line change nothing
@@ -70,15 +70,15 @@ row_there c (matrix rows) j D fit h =
     let e = eqb-true (length rows) (length c.outs) (both (eqb (length rows) (length c.outs)) fit).0 in
     let there = ap (ltb j) e ∙ h in
     ap (λ (t : ℕ). hint_for c t D) (mask_read rows j (ltb-true j (length rows) there))
-    ∙ sym (ap (λ (x : Bool). cond x (hint_for c (get_or rows j no_row).mask D) (no_hint NotThere)) there)
+    ∙ sym (ap (λ (x : Bool). cond x (hint_for c (get_or rows j no_row).mask D) (Err NotThere)) there)
 
 row_gone : (c : Listing) (t : Target) (j D : ℕ) → target_fits c.inputs (length c.outs) t ≡ true → is_row (is_matrix t) j (length c.outs) ≡ false
-    → no_hint NotThere ≡ hint_under c t j D
+    → Err NotThere ≡ hint_under c t j D
 unfolding target_fits
 row_gone c (table entries) j D fit h = refl
 row_gone c (matrix rows) j D fit h =
     let e = eqb-true (length rows) (length c.outs) (both (eqb (length rows) (length c.outs)) fit).0 in
-    sym (ap (λ (x : Bool). cond x (hint_for c (get_or rows j no_row).mask D) (no_hint NotThere)) (ap (ltb j) e ∙ h))
+    sym (ap (λ (x : Bool). cond x (hint_for c (get_or rows j no_row).mask D) (Err NotThere)) (ap (ltb j) e ∙ h))
 
 -- ---- the call
 
@@ -93,11 +93,11 @@ module _ (b : Bench) (j D : ℕ) where
       e ∙ ap (λ (x : Bench). hint_on x (get_or x.target j 0) D) is ∙ on_full s f _ D ∙ row_there c s.target j D ok.target row)
 
   -- no such row
-  pub hint_no-row : open_on b ≡ true → is_row b.is_matrix j b.m ≡ false → HintPromise b j D (no_hint NotThere)
+  pub hint_no-row : open_on b ≡ true → is_row b.is_matrix j b.m ≡ false → HintPromise b j D (Err NotThere)
   unfolding full_bench
-  hint_no-row o gone = when-open (λ (p : Present). no_hint NotThere ≡ hint_of p j D) b o (λ s ok is.
+  hint_no-row o gone = when-open (λ (p : Present). Err NotThere ≡ hint_of p j D) b o (λ s ok is.
       row_gone s.circuit s.target j D ok.target (sym (ap (λ (x : Bench). is_row x.is_matrix j x.m) is) ∙ gone))
 
   -- nothing open
-  pub hint_nothing : open_on b ≡ false → HintPromise b j D (no_hint NothingOpen)
-  hint_nothing o = when_shut (λ (p : Present). no_hint NothingOpen ≡ hint_of p j D) b o (λ e. refl)
+  pub hint_nothing : open_on b ≡ false → HintPromise b j D (Err NothingOpen)
+  hint_nothing o = when_shut (λ (p : Present). Err NothingOpen ≡ hint_of p j D) b o (λ e. refl)

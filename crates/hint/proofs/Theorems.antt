@@ -1,4 +1,6 @@
 -- What is proved of a hint: the statements, and their proofs from the laws. Assumes nothing.
+use Rattle.std.specs.Prelude.{Option, Some, None, Result, Ok, Err}
+use Rattle.circuit.specs.Rules.{done}
 use mathlib.Core.Path.{◌≡◌, refl, ap, ap₂, ◌∙◌, sym, subst}
 use mathlib.Core.Bool.{Bool, true, cond}
 use mathlib.Core.List.{List, [], ◌∷◌, map, Memᴰ}
@@ -8,7 +10,6 @@ use borrow.Author.Tests.{lt-ltb, le-ltb}
 use lib.Bits.{bit_and, differ}
 use lib.ListN.{length, get_or, take, replicate, length-map}
 use lib.Seq.{take_at}
-use Rattle.circuit.specs.declared.Answer.TheVariants.{Done}
 use Rattle.circuit.specs.declared.Refusal.{Refusal}
 use Rattle.circuit.specs.declared.Refusal.TheVariants.{Target as BadTarget, TooDeep, NotThere}
 use Rattle.circuit.specs.Gate.{row_value_on}
@@ -19,16 +20,13 @@ use Rattle.circuit.specs.Sizes.{mask_width}
 use Rattle.circuit.proofs.GateLaws.{differ-none, differ_self}
 use Rattle.circuit.proofs.ParityLaws.{parity-lt, differ_swap}
 use Rattle.circuit.proofs.RowLaws.{sum_small, values_small, sum_linear, matrix_linear}
-use Rattle.distance.specs.declared.Answer.{Answer as QueryAnswer}
-use Rattle.distance.specs.declared.Answer.TheVariants.{Gates as QueryGates, Never as QueryNever, Refused as QueryRefused}
+use Rattle.distance.specs.declared.Found.{Found}
 use Rattle.distance.specs.declared.Refusal.{Refusal as QueryRefusal}
 use Rattle.distance.specs.declared.Refusal.TheVariants.{Inputs, Lists, Mask, Depth}
-use Rattle.distance.specs.declared.Looked.{Looked}
-use Rattle.distance.specs.declared.Looked.TheVariants.{Sound as Asked, Unsound as Unasked}
 use Rattle.distance.specs.declared.FoundNumbers.{FoundNumbers}
 use Rattle.distance.specs.Base.{Line, line, Program, SetOf}
 use Rattle.distance.specs.Distance.{Gap, gates, never, distance, numbers, first_set, gap_lines, Leads}
-use Rattle.distance.specs.Query.{query_refusal_no, distance_code, look_at, answered, where_sound, answer_of, lines_where, lines_of}
+use Rattle.distance.specs.Query.{query_refusal_no, distance_code, look_at, answered, where_sound, answer_of, lines_where, lines_of, in_eight}
 use Rattle.distance.proofs.Among.{numbers_below}
 use Rattle.distance.proofs.Each.{Each, each_of}
 use Rattle.distance.proofs.Fewest.{distance_smallest, distance_no-set}
@@ -41,9 +39,7 @@ use Rattle.bench.specs.declared.Bench.{Bench}
 use Rattle.bench.specs.State.{State, Present, nothing, present, Sound}
 use Rattle.bench.specs.Held.{Stands}
 use Rattle.bench.proofs.Places.{Ascending}
-use Rattle.hint.specs.declared.Answer.TheVariants.{Gates, Never, Refused}
-use Rattle.hint.specs.declared.Hinted.{Hinted}
-use Rattle.hint.specs.Hint.{depths_of, shallow, picked, lines_from, hint_refusal, hint_answer, no_hint, hint_for, hint_under, hint_of, HintPromise, hint_code, hint_no, HintCode}
+use Rattle.hint.specs.Hint.{depths_of, shallow, picked, lines_from, hint_refusal, hint_answer, Hinted, hinted, hint_for, hint_under, hint_of, HintPromise, hint_code, hint_no, hint_numbers, HintCode, Answer}
 use Rattle.hint.proofs.Choosing.{lines_many, spent_on, shallow_ascends, shallow_in, shallow-has, taken_ascends, base_for, base-length, whole_mask, whole_cost, set-size, set_mask, set_cost, set-numbers, flags_for, taken_flags, leads_picked}
 use Rattle.hint.proofs.Refusing as refusing
 
@@ -64,9 +60,9 @@ pub record HintRight (c : Listing) (t D g : ℕ) (xs : List ℕ) : Type 0 where
   pub least : (ys : List ℕ) → Reaches c t D ys → suc g ≤ length ys
   pub first : (ys : List ℕ) → Reaches c t D ys → length ys ≡ suc g → Leads xs ys
 
--- the lines beside a hint's answer
-abbrev pub told : Hinted → List ℕ
-told h = take h.count h.lines
+-- the lines of a hint
+abbrev pub told : Found → List ℕ
+told f = take f.count f.lines
 
 -- line i of a circuit: what it sums, and its depth
 abbrev pub line_at : Listing → ℕ → Line
@@ -83,7 +79,7 @@ offset c r xs = differ (summed c xs 0) r.constant
 -- ---- what the masks are
 
 -- The values of some lines of a circuit that may stand under a matrix sum to what their masks sum to, plus their sum on 0.
-pub sum_compute : (c : Listing) → listing_answer true c ≡ Done
+pub sum_compute : (c : Listing) → listing_answer true c ≡ done
     → (x : ℕ) (is : List ℕ) → summed c is x ≡ differ (row_value_on mask_width (sum_of (picked is (masks_of c))) x) (summed c is 0)
 unfolding on_row
 sum_compute c ok x is =
@@ -93,17 +89,20 @@ sum_compute c ok x is =
 
 -- ---- what an answer shows
 
--- of a query that answers a distance
-gates_asked : (l : Looked) (x : Gap) (g : ℕ) → hint_answer (where_sound l (answered x)) ≡ Gates g → (l ≡ Asked) × (x ≡ gates g)
-gates_asked Asked (gates h) g e = let q : h ≡ g = cc in (refl, ap gates q)
-gates_asked Asked never g e = let z : ◌≡◌ {A = ℕ} 0 1 = cc in absurd (omega arith)
-gates_asked (Unasked why) x g e = let z : ◌≡◌ {A = ℕ} 0 1 = cc in absurd (omega arith)
+-- of a hint that answers a distance
+some_asked : (l : Result (Unit {0}) QueryRefusal) (x : Gap) (xs : List ℕ) (f : Found) → hinted (hint_answer (where_sound l (answered x))) xs ≡ Ok (Some f)
+    → (l ≡ Ok tt) × (x ≡ gates f.gates) × (told f ≡ xs)
+some_asked (Ok u) (gates g) xs f e =
+    let k : ◌≡◌ {A = Found} (record { gates = g; lines = in_eight xs; count = length xs }) f = cc in
+    (refl, ap (λ (y : Found). gates y.gates) k, sym (ap told k) ∙ take_at xs (replicate (8 - length xs) 0) (length xs) refl)
+some_asked (Ok u) never xs f e = absurd (cc)
+some_asked (Err why) x xs f e = absurd (cc)
 
 -- of one that answers that there is none
-never_asked : (l : Looked) (x : Gap) → hint_answer (where_sound l (answered x)) ≡ Never → (l ≡ Asked) × (x ≡ never)
-never_asked Asked (gates h) e = let z : ◌≡◌ {A = ℕ} 0 1 = cc in absurd (omega arith)
-never_asked Asked never e = (refl, refl)
-never_asked (Unasked why) x e = let z : ◌≡◌ {A = ℕ} 0 1 = cc in absurd (omega arith)
+none_asked : (l : Result (Unit {0}) QueryRefusal) (x : Gap) (xs : List ℕ) → hinted (hint_answer (where_sound l (answered x))) xs ≡ Ok None → (l ≡ Ok tt) × (x ≡ never)
+none_asked (Ok u) (gates h) xs e = absurd (cc)
+none_asked (Ok u) never xs e = (refl, refl)
+none_asked (Err why) x xs e = absurd (cc)
 
 module _ (c : Listing) (t D : ℕ) where
   -- the lines that a hint counts from
@@ -119,11 +118,15 @@ module _ (c : Listing) (t D : ℕ) where
   abbrev base : List Line
   base = base_for mask deep is
 
-  abbrev look : Looked
+  abbrev look : Result (Unit {0}) QueryRefusal
   look = look_at c.inputs (picked is (masks_of c)) (picked is (depths_of c)) t D
 
   abbrev gap : Gap
   gap = distance c.inputs base t D
+
+  -- the lines beside an answer
+  abbrev told_lines : List ℕ
+  told_lines = lines_from c.inputs is (masks_of c) (depths_of c) t D
 
   -- lines that reach t are a set of the base
   flags_take : (ys : List ℕ) → Reaches c t D ys → taken is (flags_for is ys) ≡ ys
@@ -144,7 +147,7 @@ module _ (c : Listing) (t D : ℕ) where
       }
 
   -- the first of the smallest sets
-  module _ (g : ℕ) (asked : look ≡ Asked) (found : gap ≡ gates g) where
+  module _ (g : ℕ) (asked : look ≡ Ok tt) (found : gap ≡ gates g) where
     abbrev chosen : List Bool
     chosen = first_set (suc g) t (2 ^ D) base
 
@@ -180,25 +183,24 @@ module _ (c : Listing) (t D : ℕ) where
           first = taken_leads;
         }
 
-    -- they are what the hint tells
-    told_is : taken is chosen ≡ told (hint_for c t D)
-    unfolding hint_for lines_of
+    -- they are the lines of the answer
+    told_is : told_lines ≡ taken is chosen
+    unfolding lines_of
     told_is =
-        let xs = lines_from c.inputs is (masks_of c) (depths_of c) t D in
-        let e : xs ≡ picked (numbers 0 base chosen) is =
-        ap₂ (λ (l : Looked) (x : Gap). picked (lines_where l (gap_lines x t D base)) is) asked found in
-        sym (take_at xs (replicate (8 - length xs) 0) (length xs) refl ∙ e ∙ set-numbers mask deep is chosen)
+        ap₂ (λ (l : Result (Unit {0}) QueryRefusal) (x : Gap). picked (lines_where l (gap_lines x t D base)) is) asked found ∙ set-numbers mask deep is chosen
 
   -- A hint that answers g gates tells the first of the smallest sets of lines that reach the row: g + 1 of them;
-  pub hint_right : (g : ℕ) → (hint_for c t D).answer ≡ Gates g → HintRight c t D g (told (hint_for c t D))
+  pub hint_right : (f : Found) → hint_for c t D ≡ Ok (Some f) → HintRight c t D f.gates (told f)
   unfolding hint_for answer_of
-  hint_right g e = let p = gates_asked look gap g e in subst (HintRight c t D g) (told_is g p.0 p.1) (taken_right g p.0 p.1)
+  hint_right f e =
+      let p = some_asked look gap told_lines f e in
+      subst (HintRight c t D f.gates) (sym (p.2 ∙ told_is f.gates p.0 p.1)) (taken_right f.gates p.0 p.1)
 
   -- one that answers that there is none is right: no lines reach it.
-  pub hint_never : (hint_for c t D).answer ≡ Never → (ys : List ℕ) → Reaches c t D ys → ⊥
+  pub hint_never : hint_for c t D ≡ Ok None → (ys : List ℕ) → Reaches c t D ys → ⊥
   unfolding hint_for answer_of
   hint_never e ys r =
-      let p = never_asked look gap e in
+      let p = none_asked look gap told_lines e in
       let w = fit c.inputs (picked is (masks_of c)) (picked is (depths_of c)) t D p.0 in
       distance_no-set c.inputs base t D w.small w.some p.1 (length ys) (reach-set ys (length ys) refl r)
 
@@ -210,7 +212,7 @@ reached-makes c t D g xs e r =
     whole-makes (map (line_at c) xs) g t D (length-map xs (line_at c) ∙ e) (whole_mask m d xs ∙ r.sum) (omega (arith, whole_cost m d xs, r.cost))
 
 -- The values of lines that reach row j sum to what the matrix wants of output j, plus a constant that is the same on every input value.
-pub reached_computes : (c : Listing) (rows : List Row) (j D : ℕ) (xs : List ℕ) → listing_answer true c ≡ Done → (get_or rows j no_row).constant < 2
+pub reached_computes : (c : Listing) (rows : List Row) (j D : ℕ) (xs : List ℕ) → listing_answer true c ≡ done → (get_or rows j no_row).constant < 2
     → Reaches c (get_or rows j no_row).mask D xs → (x : ℕ) → summed c xs x ≡ differ (wants (matrix rows) x j) (offset c (get_or rows j no_row) xs)
 unfolding on_row
 reached_computes c rows j D xs ok bit r x =
@@ -224,15 +226,15 @@ reached_computes c rows j D xs ok bit r x =
 
 -- In a state that keeps every rule the hint of a row of its matrix is refused only for a mask that is 0 (8),
 module _ (s : State) (ok : Sound s) (rows : List Row) (is-matrix : s.target ≡ matrix rows) (j D : ℕ) (there : j < length rows) where
-  pub hint_row_zero : (get_or rows j no_row).mask ≡ 0 → (hint_for s.circuit (get_or rows j no_row).mask D).answer ≡ Refused BadTarget
+  pub hint_row_zero : (get_or rows j no_row).mask ≡ 0 → hint_for s.circuit (get_or rows j no_row).mask D ≡ Err BadTarget
   hint_row_zero = refusing.row_zero s ok rows is-matrix j D there
 
   -- and else for its depth (9), exactly where that is above 15.
-  pub hint_too_deep : ((get_or rows j no_row).mask ≡ 0 → ⊥) → 15 < D → (hint_for s.circuit (get_or rows j no_row).mask D).answer ≡ Refused TooDeep
+  pub hint_too_deep : ((get_or rows j no_row).mask ≡ 0 → ⊥) → 15 < D → hint_for s.circuit (get_or rows j no_row).mask D ≡ Err TooDeep
   hint_too_deep = refusing.too_deep s ok rows is-matrix j D there
 
   pub hint_not_refused : ((get_or rows j no_row).mask ≡ 0 → ⊥) → D ≤ 15
-      → (why : Refusal) → (hint_for s.circuit (get_or rows j no_row).mask D).answer ≡ Refused why → ⊥
+      → (why : Refusal) → hint_for s.circuit (get_or rows j no_row).mask D ≡ Err why → ⊥
   hint_not_refused = refusing.not-refused s ok rows is-matrix j D there
 
 -- ---- on a bench
@@ -243,20 +245,19 @@ module _ (b : Bench) (j D : ℕ) where
       → (r : Hinted) → HintPromise b j D r → r ≡ hint_for s.circuit (get_or rows j no_row).mask D
   hint_is s rows k e h r m =
       m (present s) k ∙ ap (λ (t : Target). hint_under s.circuit t j D) e
-      ∙ ap (λ (x : Bool). cond x (hint_for s.circuit (get_or rows j no_row).mask D) (no_hint NotThere)) (lt-ltb j (length rows) h)
+      ∙ ap (λ (x : Bool). cond x (hint_for s.circuit (get_or rows j no_row).mask D) (Err NotThere)) (lt-ltb j (length rows) h)
 
   -- so its lines, where it answers g gates, are the first of the fewest that reach the row, and sum on every input value to what the
   -- matrix wants of output j, but for a constant;
   pub hint_makes : (s : State) (rows : List Row) → Stands b (present s) → s.target ≡ matrix rows → j < length rows
-      → (r : Hinted) → HintPromise b j D r → (g : ℕ) → r.answer ≡ Gates g
-      → HintRight s.circuit (get_or rows j no_row).mask D g (told r)
-      × ((x : ℕ) → summed s.circuit (told r) x ≡ differ (wants (matrix rows) x j) (offset s.circuit (get_or rows j no_row) (told r)))
-  hint_makes s rows k e h r m g a =
+      → (r : Hinted) → HintPromise b j D r → (f : Found) → r ≡ Ok (Some f)
+      → HintRight s.circuit (get_or rows j no_row).mask D f.gates (told f)
+      × ((x : ℕ) → summed s.circuit (told f) x ≡ differ (wants (matrix rows) x j) (offset s.circuit (get_or rows j no_row) (told f)))
+  hint_makes s rows k e h r m f a =
       let c = s.circuit in
-      let is = hint_is s rows k e h r m in
-      let right = subst (λ (x : Hinted). HintRight c (get_or rows j no_row).mask D g (told x)) (sym is) (hint_right c (get_or rows j no_row).mask D g (sym (ap (λ (x : Hinted). x.answer) is) ∙ a)) in
-      let linear = subst (λ (t : Target). listing_answer (is_matrix t) c ≡ Done) e k.sound.circuit in
-      (right, reached_computes c rows j D (told r) linear (refusing.row_fits s k.sound rows e j D h).1 right.reaches)
+      let right = hint_right c (get_or rows j no_row).mask D f (sym (hint_is s rows k e h r m) ∙ a) in
+      let linear = subst (λ (t : Target). listing_answer (is_matrix t) c ≡ done) e k.sound.circuit in
+      (right, reached_computes c rows j D (told f) linear (refusing.row_fits s k.sound rows e j D h).1 right.reaches)
 
   -- and there is one such result only,
   pub hint_unique : (p : Present) → Stands b p → (r s : Hinted) → HintPromise b j D r → HintPromise b j D s → r ≡ s
@@ -276,29 +277,35 @@ refusal-number Mask = refl
 refusal-number Depth = refl
 
 -- and a query's answer its code.
-pub answer_code : (a : QueryAnswer) → hint_code (hint_answer a) ≡ distance_code a
-answer_code (QueryGates g) = refl
-answer_code QueryNever = refl
-answer_code (QueryRefused why) = ap (λ (x : ℕ). 100 + x) (refusal-number why)
+pub answer_code : (a : Result (Option ℕ) QueryRefusal) → hint_code (hint_answer a) ≡ distance_code a
+answer_code (Ok (Some g)) = refl
+answer_code (Ok None) = refl
+answer_code (Err why) = ap (λ (x : ℕ). 100 + x) (refusal-number why)
+
+-- The code of a hint in numbers is that of its answer.
+pub numbers_are : (a : Answer) (xs : List ℕ) → (hint_numbers (hinted a xs)).code ≡ hint_code a
+numbers_are (Ok (Some g)) xs = refl
+numbers_are (Ok None) xs = refl
+numbers_are (Err why) xs = refl
 
 -- 0 is no refusal; every other number is the refusal's own.
-pub number_gates : (g : ℕ) → hint_no (Gates g) ≡ 0
+pub number_gates : (g : ℕ) → hint_no {A = Option ℕ} (Ok (Some g)) ≡ 0
 number_gates g = refl
 
-pub number_never : hint_no Never ≡ 0
+pub number_never : hint_no {A = Option ℕ} (Ok None) ≡ 0
 number_never = refl
 
-pub number-refused : (why : Refusal) → hint_no (Refused why) ≡ refusal_no why
+pub number-refused : (why : Refusal) → hint_no {A = Option ℕ} (Err why) ≡ refusal_no why
 number-refused why = refl
 
 -- Nothing open is 13,
-pub number_nothing : (j D : ℕ) → hint_no (hint_of nothing j D).answer ≡ 13
+pub number_nothing : (j D : ℕ) → hint_no (hint_of nothing j D) ≡ 13
 number_nothing j D = refl
 
 -- no matrix 12,
-pub number_table : (c : Listing) (entries : List ℕ) (j D : ℕ) → hint_no (hint_under c (table entries) j D).answer ≡ 12
+pub number_table : (c : Listing) (entries : List ℕ) (j D : ℕ) → hint_no (hint_under c (table entries) j D) ≡ 12
 number_table c entries j D = refl
 
 -- and no row j 12.
-pub number-no_row : (c : Listing) (rows : List Row) (j D : ℕ) → length rows ≤ j → hint_no (hint_under c (matrix rows) j D).answer ≡ 12
-number-no_row c rows j D h = ap (λ (x : Bool). hint_no (cond x (hint_for c (get_or rows j no_row).mask D) (no_hint NotThere)).answer) (le-ltb j (length rows) h)
+pub number-no_row : (c : Listing) (rows : List Row) (j D : ℕ) → length rows ≤ j → hint_no (hint_under c (matrix rows) j D) ≡ 12
+number-no_row c rows j D h = ap (λ (x : Bool). hint_no (cond x (hint_for c (get_or rows j no_row).mask D) (Err NotThere))) (le-ltb j (length rows) h)

@@ -9,8 +9,7 @@ use Rattle.bench.specs.declared.Bench.{Bench}
 use Rattle.bench.specs.Parts.{gate_on, entries}
 use Rattle.distance.specs.Query.{in_eight}
 use Rattle.hint.specs.declared.Base.{Base}
-use Rattle.hint.specs.declared.Hinted.{Hinted}
-use Rattle.hint.specs.Hint.{shallow, picked, hint_from}
+use Rattle.hint.specs.Hint.{shallow, picked, Hinted, hint_from}
 
 -- the sum of what a gate of a kind reads, where its operands have a and b
 unfoldable pub read_sum : ℕ → ℕ → ℕ → ℕ

@@ -5,31 +5,16 @@ ghost use Rattle.std.specs.Prelude.{◌≡◌, ◌≤◌};
 ghost use Rattle.circuit.specs.Sizes.{most_inputs, most_gates, most_lines};
 ghost use Rattle.circuit.specs.Lines.{padded};
 ghost use Rattle.circuit.specs.Rows.{input_masks};
-ghost use Rattle.hint.specs.Hint.{hint_refusal, hint_answer, no_hint, HintPromise, hint_code, HintCode};
+ghost use Rattle.distance.specs.Query.{bare_code};
+ghost use Rattle.hint.specs.Hint.{hint_refusal, HintPromise, HintCode};
 ghost use Rattle.hint.specs.Parts.{read_sum, masks_on, gathered, numbered, hint_on, is_row};
 
 use bench::Bench;
-use bench::edits::is_standing;
-use circuit::{LINES, Refusal, line_index, low16, wide};
-use distance::FoundNumbers;
+use circuit::{LINES, Refusal, line_index, low16, refusal_no};
+use distance::{Found, FoundNumbers, Lines, distance};
 
-// The fewest gates, that there is no distance, or why the hint is refused.
-#[derive(Clone, Copy)]
-pub enum Answer {
-    Gates(u8),
-    Never,
-    Refused(Refusal),
-}
-
-// An answer, and beside a distance the lines of the smallest set by their numbers in the circuit, ascending.
-#[derive(Clone, Copy)]
-pub struct Hinted {
-    pub answer: Answer,
-    pub lines: [u16; 8],
-    pub count: usize,
-}
-
-// The lines that a hint counts from: what each sums, its depth and its number in the circuit. Zeros past the last.
+// The lines that a hint counts from: what each sums, its depth and its number in the circuit. Zeros past the last. No heap: the
+// count stands beside fixed arrays.
 #[derive(Clone, Copy)]
 struct Base {
     masks: [u8; LINES],
@@ -44,10 +29,8 @@ fn input_masks(n: usize) -> [u8; LINES]
     ensures { result ≡ padded most_lines 0 (input_masks n) }
 {
     let mut masks = [0u8; LINES];
-    let mut i: usize = 0;
-    while i < n {
+    for i in 0..n {
         masks[i] = 1u8 << i;
-        i += 1;
     }
     masks
 }
@@ -63,19 +46,15 @@ fn read_sum(kind: u8, a: u8, b: u8) -> u8
 }
 
 // The mask of each line of what stands on the bench.
-fn masks_of(b: Bench) -> [u8; LINES]
-    requires { (b.n ≤ most_inputs) × (b.g ≤ most_gates) }
-    ensures { result ≡ masks_on b }
+fn masks_of(b: &Bench) -> [u8; LINES]
+    requires { (b.now.n ≤ most_inputs) × (b.now.g ≤ most_gates) }
+    ensures { result ≡ masks_on b.now }
 {
-    let n = b.n;
-    let g = b.g;
-    let mut masks = input_masks(n);
-    let mut k: usize = 0;
-    while k < g {
+    let mut masks = input_masks(b.n);
+    for k in 0..b.g {
         let first = line_index(b.left[k]);
         let second = line_index(b.right[k]);
-        masks[n + k] = read_sum(b.kinds[k], masks[first], masks[second]);
-        k += 1;
+        masks[b.n + k] = read_sum(b.kinds[k], masks[first], masks[second]);
     }
     masks
 }
@@ -89,15 +68,13 @@ fn gather(masks: &[u8; LINES], depths: &[u8; LINES], count: usize) -> Base
     let mut base_depths = [0u8; LINES];
     let mut lines = [0u16; LINES];
     let mut taken: usize = 0;
-    let mut i: usize = 0;
-    while i < count {
+    for i in 0..count {
         if depths[i] <= 15 {
             base_masks[taken] = masks[i];
             base_depths[taken] = depths[i];
             lines[taken] = low16(i);
             taken += 1;
         }
-        i += 1;
     }
     Base {
         masks: base_masks,
@@ -108,20 +85,18 @@ fn gather(masks: &[u8; LINES], depths: &[u8; LINES], count: usize) -> Base
 }
 
 // The lines of an answer by their numbers in the circuit: a query gives their places in its base.
-fn numbers_of(lines: &[u16; LINES], places: &[u16; 8], count: usize) -> [u16; 8]
+fn numbers_of(lines: &[u16; LINES], places: &Lines, count: usize) -> Lines
     requires { count ≤ 8 }
     ensures { result ≡ numbered lines.now places.now count }
 {
     let mut numbers = [0u16; 8];
-    let mut k: usize = 0;
-    while k < count {
+    for k in 0..count {
         numbers[k] = lines[line_index(places[k])];
-        k += 1;
     }
     numbers
 }
 
-// A query's refusal as the bench's with the same number.
+// A query's refusal as the bench's with the same number. Neither type is of this crate, so that it is no `From`.
 fn refusal_of(why: distance::Refusal) -> Refusal
     ensures { result ≡ hint_refusal why }
 {
@@ -133,50 +108,21 @@ fn refusal_of(why: distance::Refusal) -> Refusal
     }
 }
 
-// A query's answer as a hint's.
-fn answer_of(answer: distance::Answer) -> Answer
-    ensures { result ≡ hint_answer answer }
-{
-    match answer {
-        distance::Answer::Gates(g) => Answer::Gates(g),
-        distance::Answer::Never => Answer::Never,
-        distance::Answer::Refused(why) => Answer::Refused(refusal_of(why)),
-    }
-}
-
-// A refused hint: no line stands beside it.
-fn no_hint(why: Refusal) -> Hinted
-    ensures { result ≡ no_hint why }
-{
-    let lines = [0u16; 8];
-    Hinted {
-        answer: Answer::Refused(why),
-        lines,
-        count: 0,
-    }
-}
-
 // The query from the lines on the bench that are at most 15 deep to the mask t.
-fn ask(b: Bench, t: usize, d: usize) -> Hinted
-    requires { (b.n ≤ most_inputs) × (b.g ≤ most_gates) }
-    ensures { result ≡ hint_on b t d }
+fn ask(b: &Bench, t: usize, d: usize) -> Result<Option<Found>, Refusal>
+    requires { (b.now.n ≤ most_inputs) × (b.now.g ≤ most_gates) }
+    ensures { result ≡ hint_on b.now t d }
 {
-    let n = b.n;
-    let g = b.g;
-    let all_masks = masks_of(b);
-    let all_depths = b.depths;
-    let base = gather(&all_masks, &all_depths, n + g);
+    let masks = masks_of(b);
+    let base = gather(&masks, &b.depths, b.n + b.g);
     let count = base.count;
-    let masks = base.masks;
-    let depths = base.depths;
-    let lines = base.lines;
-    let found = distance::distance(n, &masks[..count], &depths[..count], t, d);
-    let places = found.lines;
-    let answer = found.answer;
-    Hinted {
-        answer: answer_of(answer),
-        lines: numbers_of(&lines, &places, found.count),
-        count: found.count,
+    match distance(b.n, &base.masks[..count], &base.depths[..count], t, d) {
+        Ok(Some(found)) => {
+            let lines = numbers_of(&base.lines, &found.lines, found.count);
+            Ok(Some(Found { lines, ..found }))
+        }
+        Ok(None) => Ok(None),
+        Err(why) => Err(refusal_of(why)),
     }
 }
 
@@ -184,32 +130,32 @@ fn ask(b: Bench, t: usize, d: usize) -> Hinted
 fn is_row(only: bool, j: usize, m: usize) -> bool
     ensures { result ≡ is_row only j m }
 {
-    if only { j < m } else { false }
+    only && j < m
 }
 
-// How far row j of the open matrix is from the lines of the open circuit, within depth d, and from which of them: by its mask alone.
-pub fn hint(bench: Bench, j: usize, d: usize) -> Hinted
+// How far row j of the open matrix is from the lines of the open circuit, within depth d, and from which of them, by their numbers in
+// the circuit, ascending: by its mask alone. None where there is no distance.
+pub fn hint(bench: Bench, j: usize, d: usize) -> Result<Option<Found>, Refusal>
     ensures { HintPromise bench j d result }
 {
-    if is_standing(bench.is_open, bench.n, bench.m, bench.g) {
-        if is_row(bench.is_matrix, j, bench.m) {
-            ask(bench, wide(bench.target[j]), d)
-        } else {
-            no_hint(Refusal::NotThere)
-        }
-    } else {
-        no_hint(Refusal::NothingOpen)
+    if !bench.is_standing() {
+        return Err(Refusal::NothingOpen);
     }
+    if !is_row(bench.is_matrix, j, bench.m) {
+        return Err(Refusal::NotThere);
+    }
+    ask(&bench, usize::from(bench.target[j]), d)
 }
 
-// An answer as one number.
-fn answer_no(answer: Answer) -> u64
-    ensures { result ≡ hint_code answer }
+// A number with no lines beside it.
+fn bare_number(code: u64) -> FoundNumbers
+    ensures { result ≡ bare_code code }
 {
-    match answer {
-        Answer::Gates(g) => g as u64,
-        Answer::Never => 99,
-        Answer::Refused(why) => 100 + circuit::refusal_no(why) as u64,
+    let lines = [0u16; 8];
+    FoundNumbers {
+        code,
+        count: 0,
+        lines,
     }
 }
 
@@ -217,12 +163,16 @@ fn answer_no(answer: Answer) -> u64
 pub fn hint_no(bench: Bench, j: usize, d: usize) -> FoundNumbers
     ensures { HintCode bench j d result }
 {
-    let hinted = hint(bench, j, d);
-    let answer = hinted.answer;
-    let lines = hinted.lines;
-    FoundNumbers {
-        code: answer_no(answer),
-        count: hinted.count,
-        lines,
+    match hint(bench, j, d) {
+        Ok(Some(found)) => {
+            let lines = found.lines;
+            FoundNumbers {
+                code: u64::from(found.gates),
+                count: found.count,
+                lines,
+            }
+        }
+        Ok(None) => bare_number(99),
+        Err(why) => bare_number(100 + refusal_no(why) as u64),
     }
 }

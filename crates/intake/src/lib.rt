@@ -11,10 +11,7 @@ pub fn read_full(input: &mut impl Read, room: &mut [u8]) -> usize
 {
     let mut count = 0;
     while count < room.len() {
-        let got = match input.read(&mut room[count..]) {
-            Ok(got) => got,
-            Err(_) => 0,
-        };
+        let got = input.read(&mut room[count..]).unwrap_or(0);
         if got == 0 {
             return count;
         }

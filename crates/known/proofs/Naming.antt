@@ -1,4 +1,5 @@
 -- Along a file the table has the names that were set, and no name before is at fault.
+use Rattle.std.specs.Prelude.{Option, Some, None, Result, Ok, Err}
 use mathlib.Core.Path.{◌≡◌, refl, sym, ap, subst, ◌∙◌}
 use mathlib.Core.Bool.{Bool, true, false, cond}
 use mathlib.Core.Logic.{◌⊎◌, inl, inr, ⊎_elim}
@@ -11,22 +12,18 @@ use lib.ListN.{length, get_or}
 use Rattle.formula.specs.Sizes.{most_names, longest, nesting}
 use Rattle.formula.specs.Text.{seen, is_letter, in_class, skip_of, word_end}
 use Rattle.formula.specs.Tree.{Res, got, bad, unk}
-use Rattle.formula.specs.Emit.{gates_of, line_of, emitted}
+use Rattle.formula.specs.Emit.{Out, read_at, gates_of, line_of, failed, emitted}
 use Rattle.formula.specs.Names.{is_line, look_up, name_by}
 use Rattle.formula.specs.Levels.{or_of}
 use Rattle.formula.specs.declared.Class.TheVariants.{Blank, Letter}
 use Rattle.formula.specs.declared.Gates.{Gates}
-use Rattle.formula.specs.declared.Found.{Found}
-use Rattle.formula.specs.declared.Found.TheVariants.{Line, Nothing}
 use Rattle.formula.proofs.Laws.{past-ge, past_miss}
 use Rattle.grammar.specs.File.{line_ends, sign_after}
 use Rattle.grammar.proofs.Bytes.{seen_is, byte_seen}
 use Rattle.sheet.specs.declared.Book.{Book}
-use Rattle.sheet.specs.declared.Why.{Why}
-use Rattle.sheet.specs.declared.Why.TheVariants.{Text, Name}
-use Rattle.sheet.specs.declared.Step.{Step}
-use Rattle.sheet.specs.declared.Step.TheVariants.{On, No}
-use Rattle.sheet.specs.Sheet.{no_book, stopped, line_ended, targeted, assigning, assign_at, file_of}
+use Rattle.formula.specs.declared.Why.{Why}
+use Rattle.formula.specs.declared.Why.TheVariants.{Text, Name}
+use Rattle.sheet.specs.Sheet.{no_book, line_ended, targeted, assigning, assign_at, file_of}
 use Rattle.sheet.proofs.Shape.{Made, made_fwd}
 use Rattle.known.specs.Known.{Word, line_start, is_target, Fault}
 use Rattle.known.proofs.Words.{clash, Fresh, fresh_past, line_same, line_next, line_fresh, word_is}
@@ -62,9 +59,9 @@ Refused s (Text u) = Clean s u
 Refused s (Name e) = FirstFault s e
 
 -- what a step says of them: nothing, where it goes on
-abbrev Says : List ℕ → Step → Type 0
-Says s (On z) = Unit {0}
-Says s (No w) = Refused s w
+abbrev Says : List ℕ → Out → Type 0
+Says s (Ok x) = Unit {0}
+Says s (Err w) = Refused s w
 
 -- ---- a line that begins at p, over a table of the lines before it
 
@@ -73,8 +70,8 @@ module _ (s : List ℕ) (p : ℕ) (b : Book) (t : Table s p b) (c : Clean s p) (
   abbrev q : ℕ
   q = skip_of s p
 
-  abbrev look : ℕ → ℕ → Found
-  look = look_up s b.low b.high b.lines b.n
+  abbrev look : ℕ → ℕ → Option ℕ
+  look = look_up s b.names.low b.names.high b.names.lines b.names.n
 
   blanks : (K : ℕ → Type 0) → Passed s K p q
   blanks K = passed_run s K (in_class Blank) blank_between p
@@ -150,20 +147,20 @@ module _ (s : List ℕ) (p : ℕ) (b : Book) (t : Table s p b) (c : Clean s p) (
       formula_passed : Names s look k (or_of s (name_by s look) nesting k)
       formula_passed = formula_names s look nesting k (seen_fresh s (sign_after s q) 61 sign_between sign)
 
-      line-says : (g : Gates) (r : Res) → Names s look k r → Says s (line_ended s (emitted g r)).step
+      line-says : (g : Gates) (r : Res) → Names s look k r → Says s (line_ended s (emitted g r)).out
       unfolding line_ended
       line-says g (bad u) x = fine_clean u (found_fine u x)
       line-says g (unk e) x = missed_first e x
       line-says g (got z r) x = by (line_ends s z)
         where
-          by : (v : Bool) → Says s (cond v (record { gates = gates_of r g; line = line_of r g; step = On z }) (stopped (Text z))).step
+          by : (v : Bool) → Says s (cond v (read_at (gates_of r g) (Ok (z, line_of r g))) (failed (Text z))).out
           by true = tt
           by false = fine_clean z (found_fine z x)
 
   -- what a refusal of the line's assignment says
-  assign_says : Says s (assign_at s q b).step
+  assign_says : Says s (assign_at s q b).out
   unfolding assigning
-  assign_says = by (leb most_names b.n) (leb e q) refl (ltb longest (e - q)) refl (look q e) refl (seen s (sign_after s q) 61) refl
+  assign_says = by (leb most_names b.names.n) (leb e q) refl (ltb longest (e - q)) refl (look q e) refl (seen s (sign_after s q) 61) refl
     where
       e : ℕ
       e = word_end s q
@@ -174,15 +171,15 @@ module _ (s : List ℕ) (p : ℕ) (b : Book) (t : Table s p b) (c : Clean s p) (
       word : leb e q ≡ false → ltb longest (e - q) ≡ false → Word s q
       word eu ev = word_is s q name_fresh (leb-false _ _ eu) (omega (arith, ltb-false longest (e - q) ev))
 
-      by : (m u : Bool) → leb e q ≡ u → (v : Bool) → ltb longest (e - q) ≡ v → (f : Found) → look q e ≡ f → (x : Bool) → seen s (sign_after s q) 61 ≡ x
-          → Says s (cond m (stopped (Text q)) (cond u (stopped (Text q)) (cond v (stopped (Text (q + longest))) (targeted s (name_by s look) q b.gates f)))).step
+      by : (m u : Bool) → leb e q ≡ u → (v : Bool) → ltb longest (e - q) ≡ v → (f : Option ℕ) → look q e ≡ f → (x : Bool) → seen s (sign_after s q) 61 ≡ x
+          → Says s (cond m (failed (Text q)) (cond u (failed (Text q)) (cond v (failed (Text (q + longest))) (targeted s (name_by s look) q b.gates f)))).out
       by true u eu v ev f ef x ex = before
       by false true eu v ev f ef x ex = before
       by false false eu true ev f ef x ex = clean_on s q (q + longest) before (passed_long s (Free s) q (ltb-true _ _ ev)).names
-      by false false eu false ev (Line y) ef x ex =
+      by false false eu false ev (Some y) ef x ex =
           record { at = q; fault = target_fault (word eu ev) (ap is_line ef); ends = omega (arith, leb-false e q eu); clean = before }
-      by false false eu false ev Nothing ef false ex = rw ex (fine_clean (word eu ev) (ap is_line ef) (sign_after s q) (up_to_sign (word eu ev) (ap is_line ef)))
-      by false false eu false ev Nothing ef true ex =
+      by false false eu false ev None ef false ex = rw ex (fine_clean (word eu ev) (ap is_line ef) (sign_after s q) (up_to_sign (word eu ev) (ap is_line ef)))
+      by false false eu false ev None ef true ex =
           let w = word eu ev in
           let n = ap is_line ef in
           rw ex (line-says w n ex b.gates (or_of s (name_by s look) nesting (sign_after s q + 1)) (formula_passed w n ex))
@@ -259,14 +256,14 @@ module _ (s : List ℕ) where
       record { line = inr m.ended; table = made_table s p b x.table x.clean l z m; clean = made_clean s p b x.table x.clean l z m }
 
   -- what the reader says of the names of a file: a book that it read has all of them
-  abbrev pub Ends : Book → Step → Type 0
-  Ends b (On q) = (length s ≤ q) × Table s q b × Clean s q
-  Ends b (No w) = Refused s w
+  abbrev pub Ends : Book → Result ℕ Why → Type 0
+  Ends b (Ok q) = (length s ≤ q) × Table s q b × Clean s q
+  Ends b (Err w) = Refused s w
 
   pub file_ends : Ends (file_of s).book (file_of s).step
   file_ends =
       file_by s (Before s) (λ l. Ends l.book l.step) over before_blank before_made
       (λ p b w x st e. subst (Says s) e (assign_says s p b x.table x.clean (line_begins p b x st))) before_none
     where
-      over : (p : ℕ) (b : Book) → Before s p b → length s ≤ skip_of s p → Ends b (On (skip_of s p))
+      over : (p : ℕ) (b : Book) → Before s p b → length s ≤ skip_of s p → Ends b (Ok (skip_of s p))
       over p b x h = (h, table_on s p (skip_of s p) b (past-ge (in_class Blank) s p) (spaces_nameless p) x.table, clean_on s p (skip_of s p) x.clean (λ a w h k. absurd (spaces_nameless p a w h k)))

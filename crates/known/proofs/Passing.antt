@@ -1,4 +1,5 @@
 -- The names that the reader of a formula passes are known, and the one that it misses is not.
+use Rattle.std.specs.Prelude.{Option, Some, None}
 use mathlib.Core.Path.{◌≡◌, refl, sym, ap, subst, ◌∙◌}
 use mathlib.Core.Bool.{Bool, true, false, cond}
 use mathlib.Core.List.{List}
@@ -13,8 +14,6 @@ use Rattle.formula.specs.Tree.{Op, And, Xor, Or, sign_of, Tree, Res, got, bad, u
 use Rattle.formula.specs.Names.{is_line, named, name_by}
 use Rattle.formula.specs.Levels.{close_tree, chain, level, bracket, paren_of, not_of, and_of, xor_of, or_of}
 use Rattle.formula.specs.declared.Class.TheVariants.{Blank, Tilde, Letter}
-use Rattle.formula.specs.declared.Found.{Found}
-use Rattle.formula.specs.declared.Found.TheVariants.{Line, Nothing}
 use Rattle.formula.proofs.Laws.{past-ge}
 use Rattle.formula.proofs.Reading.{name_past, bracket_is}
 use Rattle.grammar.proofs.Bytes.{seen_is, past_hits, letter_not}
@@ -161,7 +160,7 @@ module _ (s : List ℕ) where
 
 -- ---- a formula whose names `look` knows
 
-module _ (s : List ℕ) (look : ℕ → ℕ → Found) where
+module _ (s : List ℕ) (look : ℕ → ℕ → Option ℕ) where
   -- the name at a is found, or not
   abbrev pub Is : ℕ → Type 0
   Is a = is_line (look a (word_end s a)) ≡ true
@@ -188,11 +187,11 @@ module _ (s : List ℕ) (look : ℕ → ℕ → Found) where
       e : ℕ
       e = word_end s p
 
-      by : (t : Bool) → leb e p ≡ t → (u : Bool) → ltb longest (e - p) ≡ u → (f : Found) → look p e ≡ f → Names p (cond t (bad p) (cond u (bad (p + longest)) (named s e f)))
+      by : (t : Bool) → leb e p ≡ t → (u : Bool) → ltb longest (e - p) ≡ u → (f : Option ℕ) → look p e ≡ f → Names p (cond t (bad p) (cond u (bad (p + longest)) (named s e f)))
       by true et u eu f ef = passed_none s Is p
       by false et true eu f ef = passed_long s Is p (ltb-true _ _ eu)
-      by false et false eu (Line v) ef = passed_on s Is p e (skip_of s e) (passed_name s Is p (ap is_line ef)) (passed_run s Is (in_class Blank) blank_between e)
-      by false et false eu Nothing ef =
+      by false et false eu (Some v) ef = passed_on s Is p e (skip_of s e) (passed_name s Is p (ap is_line ef)) (passed_run s Is (in_class Blank) blank_between e)
+      by false et false eu None ef =
           record {
             at = p;
             word = word_is s p fr (leb-false _ _ et) (omega (arith, ltb-false longest (e - p) eu));

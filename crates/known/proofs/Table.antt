@@ -1,4 +1,5 @@
 -- The table of a book has the names that the lines before set, so what it knows is what is known.
+use Rattle.std.specs.Prelude.{Option, Some, None}
 use mathlib.Core.Path.{◌≡◌, refl, sym, ap, subst, ◌∙◌}
 use mathlib.Core.Bool.{Bool, true, false, cond, ◌&&◌}
 use mathlib.Core.Logic.{◌⊎◌, inl, inr, ⊎_elim}
@@ -11,10 +12,8 @@ use lib.ListN.{length, get_or, set, length-set, length-replicate}
 use lib.Seq.{get_or-set_same, get_or-set_other}
 use Rattle.formula.specs.Sizes.{most_names, longest}
 use Rattle.formula.specs.Text.{word_end}
-use Rattle.formula.specs.Names.{low_key, high_key, few_names, find_from, input_of, or_else, is_line, look_up}
+use Rattle.formula.specs.Names.{no_names, low_key, high_key, few_names, find_from, input_of, or_else, is_line, look_up}
 use Rattle.formula.specs.declared.Gates.{Gates}
-use Rattle.formula.specs.declared.Found.{Found}
-use Rattle.formula.specs.declared.Found.TheVariants.{Line, Nothing}
 use Rattle.sheet.specs.declared.Book.{Book}
 use Rattle.sheet.specs.Sheet.{no_book, set_name}
 use Rattle.known.specs.Known.{Word, same_name, line_start, is_target, is_input, SetBefore, Known}
@@ -33,7 +32,7 @@ record Hit (low high lines : List ℕ) (a b f from v : ℕ) : Type 0 where
   line : v ≡ get_or lines i 0
 
 module _ (low high lines : List ℕ) (a b : ℕ) where
-  find_line : (f i v : ℕ) → find_from low high lines a b f i ≡ Line v → Hit low high lines a b f i v
+  find_line : (f i v : ℕ) → find_from low high lines a b f i ≡ Some v → Hit low high lines a b f i v
   unfolding find_from
   find_line zero i v e = let z : ◌≡◌ {A = ℕ} 0 1 = cc in absurd (omega arith)
   find_line (suc f) i v e = by (eqb (get_or low i 0) a) refl (eqb (get_or high i 0) b) refl (find_line f (i + 1) v) e
@@ -41,23 +40,23 @@ module _ (low high lines : List ℕ) (a b : ℕ) where
       later : Hit low high lines a b f (i + 1) v → Hit low high lines a b (suc f) i v
       later h = record { i = h.i; least = omega (arith, h.least); within = omega (arith, h.within); low_is = h.low_is; high_is = h.high_is; line = h.line }
 
-      by : (t : Bool) → eqb (get_or low i 0) a ≡ t → (u : Bool) → eqb (get_or high i 0) b ≡ u → (find_from low high lines a b f (i + 1) ≡ Line v → Hit low high lines a b f (i + 1) v)
-          → cond (t && u) (Line (get_or lines i 0)) (find_from low high lines a b f (i + 1)) ≡ Line v → Hit low high lines a b (suc f) i v
+      by : (t : Bool) → eqb (get_or low i 0) a ≡ t → (u : Bool) → eqb (get_or high i 0) b ≡ u → (find_from low high lines a b f (i + 1) ≡ Some v → Hit low high lines a b f (i + 1) v)
+          → cond (t && u) (Some (get_or lines i 0)) (find_from low high lines a b f (i + 1)) ≡ Some v → Hit low high lines a b (suc f) i v
       by true et true eu ih e = record { i = i; least = omega arith; within = omega arith; low_is = eqb-true _ _ et; high_is = eqb-true _ _ eu; line = cc }
       by true et false eu ih e = later (ih e)
       by false et u eu ih e = later (ih e)
 
-  find_none : (f i : ℕ) → find_from low high lines a b f i ≡ Nothing → (j : ℕ) → i ≤ j → j < i + f → get_or low j 0 ≡ a → get_or high j 0 ≡ b → ⊥
+  find_none : (f i : ℕ) → find_from low high lines a b f i ≡ None → (j : ℕ) → i ≤ j → j < i + f → get_or low j 0 ≡ a → get_or high j 0 ≡ b → ⊥
   unfolding find_from
   find_none zero i e j l m ea eb = omega arith
   find_none (suc f) i e j l m ea eb = by (ltb i j) refl (find_none f (i + 1))
     where
-      rest : (t u : Bool) → cond (t && u) (Line (get_or lines i 0)) (find_from low high lines a b f (i + 1)) ≡ Nothing → find_from low high lines a b f (i + 1) ≡ Nothing
+      rest : (t u : Bool) → cond (t && u) (Some (get_or lines i 0)) (find_from low high lines a b f (i + 1)) ≡ None → find_from low high lines a b f (i + 1) ≡ None
       rest true true e = let z : ◌≡◌ {A = ℕ} 0 1 = cc in absurd (omega arith)
       rest true false e = e
       rest false u e = e
 
-      by : (t : Bool) → ltb i j ≡ t → (find_from low high lines a b f (i + 1) ≡ Nothing → (j : ℕ) → i + 1 ≤ j → j < i + 1 + f → get_or low j 0 ≡ a → get_or high j 0 ≡ b → ⊥) → ⊥
+      by : (t : Bool) → ltb i j ≡ t → (find_from low high lines a b f (i + 1) ≡ None → (j : ℕ) → i + 1 ≤ j → j < i + 1 + f → get_or low j 0 ≡ a → get_or high j 0 ≡ b → ⊥) → ⊥
       by true w ih = ih (rest (eqb (get_or low i 0) a) (eqb (get_or high i 0) b) e) j (omega (arith, ltb-true i j w)) (omega arith) ea eb
       by false w ih =
           let z : j ≡ i = omega (arith, ltb-false i j w) in
@@ -76,45 +75,45 @@ pub record Entry (s : List ℕ) (p a low high : ℕ) : Type 0 where
   pub word : Word s a
   pub target : is_target s a ≡ true
   pub before : a < p
-  pub plain : input_of s a (word_end s a) ≡ Nothing
+  pub plain : input_of s a (word_end s a) ≡ None
   pub low_is : low ≡ low_key s a (word_end s a)
   pub high_is : high ≡ high_key s a (word_end s a)
 
 -- the same of entry i of a book
 abbrev pub EntryIn : List ℕ → ℕ → Book → ℕ → Type 0
-EntryIn s p b i = Entry s p (start_of b i) (get_or b.low i 0) (get_or b.high i 0)
+EntryIn s p b i = Entry s p (start_of b i) (get_or b.names.low i 0) (get_or b.names.high i 0)
 
 -- the name at a is in a book
 pub record Listed (b : Book) (a : ℕ) : Type 0 where
   pub i : ℕ
-  pub within : i < b.n
+  pub within : i < b.names.n
   pub at : start_of b i ≡ a
 
 -- a book's lists have room for the most names
 pub record Sized (b : Book) : Type 0 where
-  pub low : length b.low ≡ most_names
-  pub high : length b.high ≡ most_names
-  pub lines : length b.lines ≡ most_names
+  pub low : length b.names.low ≡ most_names
+  pub high : length b.names.high ≡ most_names
+  pub lines : length b.names.lines ≡ most_names
   pub starts : length b.starts ≡ most_names
 
 -- the names of a book are those that the lines before p set, each once
 pub record Table (s : List ℕ) (p : ℕ) (b : Book) : Type 0 where
-  pub room : b.n ≤ most_names
+  pub room : b.names.n ≤ most_names
   pub sized : Sized b
-  pub entry : (i : ℕ) → i < b.n → EntryIn s p b i
+  pub entry : (i : ℕ) → i < b.names.n → EntryIn s p b i
   pub listed : (a : ℕ) → Word s a → is_target s a ≡ true → a < p → Listed b a
-  pub once : (i j : ℕ) → i < b.n → j < b.n → same_name s (start_of b i) (start_of b j) ≡ true → i ≡ j
+  pub once : (i j : ℕ) → i < b.names.n → j < b.names.n → same_name s (start_of b i) (start_of b j) ≡ true → i ≡ j
 
 -- what a book knows of the name at a
-abbrev pub look_up_in : List ℕ → Book → ℕ → Found
-look_up_in s b a = look_up s b.low b.high b.lines b.n a (word_end s a)
+abbrev pub look_up_in : List ℕ → Book → ℕ → Option ℕ
+look_up_in s b a = look_up s b.names.low b.names.high b.names.lines b.names.n a (word_end s a)
 
 -- v is the line of the entry of a book whose name is that at a
 pub record Entered (s : List ℕ) (b : Book) (a v : ℕ) : Type 0 where
   pub i : ℕ
-  pub within : i < b.n
+  pub within : i < b.names.n
   pub same : same_name s (start_of b i) a ≡ true
-  pub line : v ≡ get_or b.lines i 0
+  pub line : v ≡ get_or b.names.lines i 0
 
 pub few_is : (n : ℕ) → n ≤ most_names → few_names n ≡ n
 unfolding few_names
@@ -125,56 +124,56 @@ few_is n h = by (ltb n most_names) refl
     by false w = omega (arith, ltb-false n most_names w)
 
 module _ (s : List ℕ) (p : ℕ) (b : Book) (t : Table s p b) (a : ℕ) (m : word_end s a ≤ a + longest) where
-  abbrev found : Found
-  found = find_from b.low b.high b.lines (low_key s a (word_end s a)) (high_key s a (word_end s a)) b.n 0
+  abbrev found : Option ℕ
+  found = find_from b.names.low b.names.high b.names.lines (low_key s a (word_end s a)) (high_key s a (word_end s a)) b.names.n 0
 
   look_is : look_up_in s b a ≡ or_else (input_of s a (word_end s a)) found
   unfolding look_up
-  look_is = rw (few_is b.n t.room)
+  look_is = rw (few_is b.names.n t.room)
 
-  found-entered : (v : ℕ) → found ≡ Line v → Entered s b a v
+  found-entered : (v : ℕ) → found ≡ Some v → Entered s b a v
   found-entered v e =
-      let h = find_line b.low b.high b.lines (low_key s a (word_end s a)) (high_key s a (word_end s a)) b.n 0 v e in
-      let k : h.i < b.n = omega (arith, h.within) in
+      let h = find_line b.names.low b.names.high b.names.lines (low_key s a (word_end s a)) (high_key s a (word_end s a)) b.names.n 0 v e in
+      let k : h.i < b.names.n = omega (arith, h.within) in
       let x = t.entry h.i k in
       record { i = h.i; within = k; same = key_same s (start_of b h.i) a x.word.short m (sym x.low_is ∙ h.low_is) (sym x.high_is ∙ h.high_is); line = h.line }
 
-  found_none : found ≡ Nothing → (i : ℕ) → i < b.n → same_name s (start_of b i) a ≡ true → ⊥
+  found_none : found ≡ None → (i : ℕ) → i < b.names.n → same_name s (start_of b i) a ≡ true → ⊥
   found_none e i h w =
       let x = t.entry i h in
       let k = same_key s (start_of b i) a w in
-      find_none b.low b.high b.lines (low_key s a (word_end s a)) (high_key s a (word_end s a)) b.n 0 e i (omega arith) (omega arith) (x.low_is ∙ k.0) (x.high_is ∙ k.1)
+      find_none b.names.low b.names.high b.names.lines (low_key s a (word_end s a)) (high_key s a (word_end s a)) b.names.n 0 e i (omega arith) (omega arith) (x.low_is ∙ k.0) (x.high_is ∙ k.1)
 
   -- what is not found is neither an input nor an entry
-  pub look_new : look_up_in s b a ≡ Nothing → (input_of s a (word_end s a) ≡ Nothing) × ((i : ℕ) → i < b.n → same_name s (start_of b i) a ≡ true → ⊥)
+  pub look_new : look_up_in s b a ≡ None → (input_of s a (word_end s a) ≡ None) × ((i : ℕ) → i < b.names.n → same_name s (start_of b i) a ≡ true → ⊥)
   look_new e = by (input_of s a (word_end s a)) refl (sym look_is ∙ e)
     where
-      by : (f : Found) → input_of s a (word_end s a) ≡ f → or_else f found ≡ Nothing → (input_of s a (word_end s a) ≡ Nothing) × ((i : ℕ) → i < b.n → same_name s (start_of b i) a ≡ true → ⊥)
-      by (Line x) ef e = let z : ◌≡◌ {A = ℕ} 0 1 = cc in absurd (omega arith)
-      by Nothing ef e = (ef, found_none e)
+      by : (f : Option ℕ) → input_of s a (word_end s a) ≡ f → or_else f found ≡ None → (input_of s a (word_end s a) ≡ None) × ((i : ℕ) → i < b.names.n → same_name s (start_of b i) a ≡ true → ⊥)
+      by (Some x) ef e = let z : ◌≡◌ {A = ℕ} 0 1 = cc in absurd (omega arith)
+      by None ef e = (ef, found_none e)
 
   -- what is found is an input or an entry's line
-  pub look_entered : (v : ℕ) → look_up_in s b a ≡ Line v → (input_of s a (word_end s a) ≡ Line v) ⊎ Entered s b a v
+  pub look_entered : (v : ℕ) → look_up_in s b a ≡ Some v → (input_of s a (word_end s a) ≡ Some v) ⊎ Entered s b a v
   look_entered v e = by (input_of s a (word_end s a)) refl (sym look_is ∙ e)
     where
-      by : (f : Found) → input_of s a (word_end s a) ≡ f → or_else f found ≡ Line v → (input_of s a (word_end s a) ≡ Line v) ⊎ Entered s b a v
-      by (Line x) ef e = inl (ef ∙ e)
-      by Nothing ef e = inr (found-entered v e)
+      by : (f : Option ℕ) → input_of s a (word_end s a) ≡ f → or_else f found ≡ Some v → (input_of s a (word_end s a) ≡ Some v) ⊎ Entered s b a v
+      by (Some x) ef e = inl (ef ∙ e)
+      by None ef e = inr (found-entered v e)
 
   -- one entry at most has this name
-  pub one_entry : (i j : ℕ) → i < b.n → j < b.n → same_name s (start_of b i) a ≡ true → same_name s (start_of b j) a ≡ true → i ≡ j
+  pub one_entry : (i j : ℕ) → i < b.names.n → j < b.names.n → same_name s (start_of b i) a ≡ true → same_name s (start_of b j) a ≡ true → i ≡ j
   one_entry i j h k u v = t.once i j h k (same_meet s (start_of b i) (start_of b j) a u v)
 
   -- and it is found
-  pub entered_look : (i : ℕ) → i < b.n → same_name s (start_of b i) a ≡ true → look_up_in s b a ≡ Line (get_or b.lines i 0)
-  entered_look i h w = look_is ∙ ap (λ (f : Found). or_else f found) (sym (same_input s (start_of b i) a w) ∙ (t.entry i h).plain) ∙ by found refl
+  pub entered_look : (i : ℕ) → i < b.names.n → same_name s (start_of b i) a ≡ true → look_up_in s b a ≡ Some (get_or b.names.lines i 0)
+  entered_look i h w = look_is ∙ ap (λ (f : Option ℕ). or_else f found) (sym (same_input s (start_of b i) a w) ∙ (t.entry i h).plain) ∙ by found refl
     where
-      by : (f : Found) → found ≡ f → f ≡ Line (get_or b.lines i 0)
-      by Nothing e = absurd (found_none e i h w)
-      by (Line v) e =
+      by : (f : Option ℕ) → found ≡ f → f ≡ Some (get_or b.names.lines i 0)
+      by None e = absurd (found_none e i h w)
+      by (Some v) e =
           let x = found-entered v e in
           let z = one_entry x.i i x.within h x.same w in
-          ap Line (x.line ∙ ap (λ (j : ℕ). get_or b.lines j 0) z)
+          ap Some (x.line ∙ ap (λ (j : ℕ). get_or b.names.lines j 0) z)
 
   -- so it knows, of the names of the line that begins at p, those that are known
   module _ (ls : line_start s a ≡ p) where
@@ -186,9 +185,9 @@ module _ (s : List ℕ) (p : ℕ) (b : Book) (t : Table s p b) (a : ℕ) (m : wo
             let y = t.entry x.i x.within in
             record { at = start_of b x.i; word = y.word; target = y.target; before = omega (arith, y.before); same = x.same }
 
-        by : (f : Found) → look_up_in s b a ≡ f → is_line f ≡ true → Known s a
-        by Nothing ef e = absurd (clash false e refl)
-        by (Line v) ef e = ⊎_elim (λ k. inl (ap is_line k)) (λ x. inr (set_by v x)) (look_entered v ef)
+        by : (f : Option ℕ) → look_up_in s b a ≡ f → is_line f ≡ true → Known s a
+        by None ef e = absurd (clash false e refl)
+        by (Some v) ef e = ⊎_elim (λ k. inl (ap is_line k)) (λ x. inr (set_by v x)) (look_entered v ef)
 
     pub known_look : Known s a → is_line (look_up_in s b a) ≡ true
     known_look = ⊎_elim input table
@@ -196,9 +195,9 @@ module _ (s : List ℕ) (p : ℕ) (b : Book) (t : Table s p b) (a : ℕ) (m : wo
         input : is_input s a ≡ true → is_line (look_up_in s b a) ≡ true
         input e = ap is_line look_is ∙ by (input_of s a (word_end s a)) e
           where
-            by : (f : Found) → is_line f ≡ true → is_line (or_else f found) ≡ true
-            by (Line v) e = refl
-            by Nothing e = absurd (clash false e refl)
+            by : (f : Option ℕ) → is_line f ≡ true → is_line (or_else f found) ≡ true
+            by (Some v) e = refl
+            by None e = absurd (clash false e refl)
 
         table : SetBefore s a → is_line (look_up_in s b a) ≡ true
         table x =
@@ -208,7 +207,7 @@ module _ (s : List ℕ) (p : ℕ) (b : Book) (t : Table s p b) (a : ℕ) (m : wo
 -- ---- how it comes about
 
 pub table_none : (s : List ℕ) → Table s 0 no_book
-unfolding no_book
+unfolding no_book no_names
 table_none s =
     record {
       room = omega arith;
@@ -227,7 +226,7 @@ table_on s p q b h none t =
     record {
       room = t.room;
       sized = t.sized;
-      entry = λ i k. entry_later s p q (start_of b i) (get_or b.low i 0) (get_or b.high i 0) h (t.entry i k);
+      entry = λ i k. entry_later s p q (start_of b i) (get_or b.names.low i 0) (get_or b.names.high i 0) h (t.entry i k);
       listed = λ a w e k. by a w e k (ltb a p) refl;
       once = t.once;
     }
@@ -237,62 +236,62 @@ table_on s p q b h none t =
     by a w e k false u = absurd (none a w (ltb-false _ _ u) k)
 
 -- one name more: the only one from p to z that its line sets, and new
-module _ (s : List ℕ) (p q z : ℕ) (b : Book) (g : Gates) (v : ℕ) (t : Table s p b) (room : b.n < most_names) (order : p ≤ q) (word : Word s q) (target : is_target s q ≡ true)
-    (new : look_up_in s b q ≡ Nothing) (ahead : q < z) (only : (a : ℕ) → Word s a → is_target s a ≡ true → p ≤ a → a < z → a ≡ q) where
+module _ (s : List ℕ) (p q z : ℕ) (b : Book) (g : Gates) (v : ℕ) (t : Table s p b) (room : b.names.n < most_names) (order : p ≤ q) (word : Word s q) (target : is_target s q ≡ true)
+    (new : look_up_in s b q ≡ None) (ahead : q < z) (only : (a : ℕ) → Word s a → is_target s a ≡ true → p ≤ a → a < z → a ≡ q) where
   abbrev after : Book
   after = set_name s b g q v
 
-  kept : (l : List ℕ) (x i : ℕ) → i < b.n → get_or (set l b.n x) i 0 ≡ get_or l i 0
-  kept l x i h = get_or-set_other l b.n i x 0 (λ e. omega arith)
+  kept : (l : List ℕ) (x i : ℕ) → i < b.names.n → get_or (set l b.names.n x) i 0 ≡ get_or l i 0
+  kept l x i h = get_or-set_other l b.names.n i x 0 (λ e. omega arith)
 
-  last : (l : List ℕ) (x i : ℕ) → length l ≡ most_names → i ≡ b.n → get_or (set l b.n x) i 0 ≡ x
-  last l x i h e = ap (λ (j : ℕ). get_or (set l b.n x) j 0) e ∙ get_or-set_same l b.n x 0 (omega arith)
+  last : (l : List ℕ) (x i : ℕ) → length l ≡ most_names → i ≡ b.names.n → get_or (set l b.names.n x) i 0 ≡ x
+  last l x i h e = ap (λ (j : ℕ). get_or (set l b.names.n x) j 0) e ∙ get_or-set_same l b.names.n x 0 (omega arith)
 
-  at_old : (i : ℕ) → i < b.n → start_of after i ≡ start_of b i
+  at_old : (i : ℕ) → i < b.names.n → start_of after i ≡ start_of b i
   at_old i h = kept b.starts q i h
 
-  at_new : (i : ℕ) → i ≡ b.n → start_of after i ≡ q
+  at_new : (i : ℕ) → i ≡ b.names.n → start_of after i ≡ q
   at_new i e = last b.starts q i t.sized.starts e
 
-  unlike : (input_of s q (word_end s q) ≡ Nothing) × ((i : ℕ) → i < b.n → same_name s (start_of b i) q ≡ true → ⊥)
+  unlike : (input_of s q (word_end s q) ≡ None) × ((i : ℕ) → i < b.names.n → same_name s (start_of b i) q ≡ true → ⊥)
   unlike = look_new s p b t q word.short new
 
-  entry_old : (i : ℕ) → i < b.n → EntryIn s z after i
+  entry_old : (i : ℕ) → i < b.names.n → EntryIn s z after i
   entry_old i h =
-      rw (at_old i h, kept b.low (low_key s q (word_end s q)) i h, kept b.high (high_key s q (word_end s q)) i h)
-      (entry_later s p z (start_of b i) (get_or b.low i 0) (get_or b.high i 0) (omega arith) (t.entry i h))
+      rw (at_old i h, kept b.names.low (low_key s q (word_end s q)) i h, kept b.names.high (high_key s q (word_end s q)) i h)
+      (entry_later s p z (start_of b i) (get_or b.names.low i 0) (get_or b.names.high i 0) (omega arith) (t.entry i h))
 
-  entry_new : (i : ℕ) → i ≡ b.n → EntryIn s z after i
+  entry_new : (i : ℕ) → i ≡ b.names.n → EntryIn s z after i
   entry_new i e =
-      rw (at_new i e, last b.low (low_key s q (word_end s q)) i t.sized.low e, last b.high (high_key s q (word_end s q)) i t.sized.high e)
+      rw (at_new i e, last b.names.low (low_key s q (word_end s q)) i t.sized.low e, last b.names.high (high_key s q (word_end s q)) i t.sized.high e)
       (record { word = word; target = target; before = ahead; plain = unlike.0; low_is = refl; high_is = refl })
 
   pub table_set : Table s z after
   table_set =
       record {
         room = omega arith;
-        sized = record { low = length-set b.low b.n _ ∙ t.sized.low; high = length-set b.high b.n _ ∙ t.sized.high; lines = length-set b.lines b.n _ ∙ t.sized.lines; starts = length-set b.starts b.n _ ∙ t.sized.starts };
-        entry = λ i h. entry i h (ltb i b.n) refl;
+        sized = record { low = length-set b.names.low b.names.n _ ∙ t.sized.low; high = length-set b.names.high b.names.n _ ∙ t.sized.high; lines = length-set b.names.lines b.names.n _ ∙ t.sized.lines; starts = length-set b.starts b.names.n _ ∙ t.sized.starts };
+        entry = λ i h. entry i h (ltb i b.names.n) refl;
         listed = λ a w e h. listed a w e h (ltb a p) refl;
-        once = λ i j h k e. once i j h k e (ltb i b.n) refl (ltb j b.n) refl;
+        once = λ i j h k e. once i j h k e (ltb i b.names.n) refl (ltb j b.names.n) refl;
       }
     where
-      entry : (i : ℕ) → i < b.n + 1 → (u : Bool) → ltb i b.n ≡ u → EntryIn s z after i
+      entry : (i : ℕ) → i < b.names.n + 1 → (u : Bool) → ltb i b.names.n ≡ u → EntryIn s z after i
       entry i h true u = entry_old i (ltb-true _ _ u)
-      entry i h false u = entry_new i (omega (arith, ltb-false i b.n u))
+      entry i h false u = entry_new i (omega (arith, ltb-false i b.names.n u))
 
       listed : (a : ℕ) → Word s a → is_target s a ≡ true → a < z → (u : Bool) → ltb a p ≡ u → Listed after a
       listed a w e h true u = let l = t.listed a w e (ltb-true _ _ u) in record { i = l.i; within = omega (arith, l.within); at = at_old l.i l.within ∙ l.at }
-      listed a w e h false u = record { i = b.n; within = omega arith; at = at_new b.n refl ∙ sym (only a w e (ltb-false _ _ u) h) }
+      listed a w e h false u = record { i = b.names.n; within = omega arith; at = at_new b.names.n refl ∙ sym (only a w e (ltb-false _ _ u) h) }
 
-      once : (i j : ℕ) → i < b.n + 1 → j < b.n + 1 → same_name s (start_of after i) (start_of after j) ≡ true → (u : Bool) → ltb i b.n ≡ u → (x : Bool) → ltb j b.n ≡ x → i ≡ j
-      once i j h k e true u true x = let m = ltb-true i b.n u in let n = ltb-true j b.n x in t.once i j m n (rw (at_old i m, at_old j n) at e)
+      once : (i j : ℕ) → i < b.names.n + 1 → j < b.names.n + 1 → same_name s (start_of after i) (start_of after j) ≡ true → (u : Bool) → ltb i b.names.n ≡ u → (x : Bool) → ltb j b.names.n ≡ x → i ≡ j
+      once i j h k e true u true x = let m = ltb-true i b.names.n u in let n = ltb-true j b.names.n x in t.once i j m n (rw (at_old i m, at_old j n) at e)
       once i j h k e true u false x =
-          let m = ltb-true i b.n u in
-          let n : j ≡ b.n = omega (arith, ltb-false j b.n x) in
+          let m = ltb-true i b.names.n u in
+          let n : j ≡ b.names.n = omega (arith, ltb-false j b.names.n x) in
           absurd (unlike.1 i m (rw (at_old i m, at_new j n) at e))
       once i j h k e false u true x =
-          let m : i ≡ b.n = omega (arith, ltb-false i b.n u) in
-          let n = ltb-true j b.n x in
+          let m : i ≡ b.names.n = omega (arith, ltb-false i b.names.n u) in
+          let n = ltb-true j b.names.n x in
           absurd (unlike.1 j n (same_sym s q (start_of b j) (rw (at_new i m, at_old j n) at e)))
-      once i j h k e false u false x = omega (arith, ltb-false i b.n u, ltb-false j b.n x)
+      once i j h k e false u false x = omega (arith, ltb-false i b.names.n u, ltb-false j b.names.n x)

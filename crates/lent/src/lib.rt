@@ -1,4 +1,6 @@
 // The outer calls, on a bench that is lent to be changed where it stands. Each is thin: the form by value does the work.
+// The pairs that differ in one word (an open by matrix and by table, and each call here and with numbers in linked.rt) stay, since C and Rust
+// callers name each of them.
 #![tactic(auto)]
 
 ghost use Rattle.std.specs.Prelude.{true, false};
@@ -7,10 +9,9 @@ ghost use Rattle.bench.specs.State.{limits};
 ghost use Rattle.bench.specs.Calls.{OpenPromise, GatePromise, OutputPromise, EntryPromise, LimitsPromise, SweepPromise, AppendPromise, ReportPromise, StorePromise};
 ghost use Rattle.hint.specs.Hint.{HintPromise};
 
-use bench::{Bench, Edit, Reported};
-use circuit::Answer;
-use hint::Hinted;
-use stored::Writing;
+use bench::{Bench, Edit, Report};
+use circuit::Refusal;
+use distance::Found;
 
 pub mod linked; // linked.rt: the same with numbers for answers, for other languages
 
@@ -22,7 +23,7 @@ pub fn open_matrix(
     gates: u8,
     depth: u8,
     ands: u8,
-) -> Answer
+) -> Result<(), Refusal>
     ensures { OpenPromise bench.old bytes.now (brought true rows.now) (limits gates depth ands) result bench.new }
 {
     let done = bench::opening::open_matrix(*bench, bytes, rows, gates, depth, ands);
@@ -38,7 +39,7 @@ pub fn open_table(
     gates: u8,
     depth: u8,
     ands: u8,
-) -> Answer
+) -> Result<(), Refusal>
     ensures { OpenPromise bench.old bytes.now (brought false entries.now) (limits gates depth ands) result bench.new }
 {
     let done = bench::opening::open_table(*bench, bytes, entries, gates, depth, ands);
@@ -101,21 +102,21 @@ pub fn append_gate(bench: &mut Bench, kind: usize, a: usize, b: usize) -> Edit
 }
 
 // The report of what stands on the bench.
-pub fn report(bench: &Bench) -> Reported
+pub fn report(bench: &Bench) -> Result<Report, Refusal>
     ensures { ReportPromise bench.now result }
 {
     report::report(*bench)
 }
 
 // How far row j of the open matrix is from the lines of the open circuit within depth d, and which of them make it.
-pub fn hint(bench: &Bench, j: usize, d: usize) -> Hinted
+pub fn hint(bench: &Bench, j: usize, d: usize) -> Result<Option<Found>, Refusal>
     ensures { HintPromise bench.now j d result }
 {
     hint::hint(*bench, j, d)
 }
 
 // The stored bytes first in the room, and how many; the rest of the room stays.
-pub fn store(bench: &Bench, room: &mut [u8]) -> Writing
+pub fn store(bench: &Bench, room: &mut [u8]) -> Result<usize, Refusal>
     ensures { StorePromise bench.now room.old result room.new }
 {
     bench::storing::store(*bench, room)

@@ -1,4 +1,5 @@
 // The outer calls on a lent bench, with numbers for answers: what `lent_c` exports to other languages. A bench of zeros has nothing open.
+// Names, parameters and layouts are the C interface: each call has a function of its own, with its parameters one by one.
 ghost use Rattle.std.specs.Prelude.{◌≡◌, true, false};
 ghost use Rattle.stored.specs.Writing.{Restored};
 ghost use Rattle.distance.specs.Query.{found_of, found_code};

@@ -1,5 +1,5 @@
 // What other languages link: the static library over `lent`'s calls with numbers for answers, an export for each. A bench of zeros has
-// nothing open.
+// nothing open. Each is a twin of `lent::linked`'s by the C interface: a crate is a library or a static library, and exports what is its own.
 #![tactic(auto)]
 
 ghost use Rattle.std.specs.Prelude.{◌≡◌, true, false};

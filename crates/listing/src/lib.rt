@@ -13,7 +13,19 @@ use circuit::rules::is_shape;
 use circuit::{Circuit, Refusal, line_index, refusal_no};
 use text::{is_free, put_labelled, put_numbered};
 
+// The lines that a gate reads, in a circuit with n inputs.
+#[derive(Clone, Copy)]
+struct Operands {
+    n: usize,
+    left: usize,
+    right: usize,
+    ghost left_is_line: { left < most_lines },
+    ghost right_is_line: { right < most_lines },
+}
+
 // The name of a line of a circuit with n inputs.
+// (Here and below `room` and `at` go side by side. Tried: a struct that holds both with methods that put. The method is proved, but its caller
+// knows nothing of the room that it lent: what a `&mut` field leaves behind is not tied to what the last method left in it.)
 fn put_name(room: &mut [u8], at: usize, n: usize, line: usize) -> usize
     requires { (at + 4 ≤ length room.old) × (line < most_lines) }
     ensures put { Put room.old at (line_name n line) room.new result }
@@ -27,25 +39,24 @@ fn put_name(room: &mut [u8], at: usize, n: usize, line: usize) -> usize
 }
 
 // Two operands with a sign between them.
-fn put_joined(room: &mut [u8], at: usize, n: usize, left: usize, sign: u8, right: usize) -> usize
-    requires { (at + 11 ≤ length room.old) × (left < most_lines) × (right < most_lines) }
-    ensures put { Put room.old at (joined (line_name n left) sign (line_name n right)) room.new result }
+fn put_joined(room: &mut [u8], at: usize, q: Operands, sign: u8) -> usize
+    requires { at + 11 ≤ length room.old }
+    ensures put { Put room.old at (joined (line_name q.n q.left) sign (line_name q.n q.right)) room.new result }
     ensures upper_bound { result ≤ at + 11 }
 {
-    let between = [b' ', sign, b' '];
-    let first = put_name(room, at, n, left);
-    let second = text::put(room, first, &between);
-    put_name(room, second, n, right)
+    let first = put_name(room, at, q.n, q.left);
+    let second = text::put(room, first, &[b' ', sign, b' ']);
+    put_name(room, second, q.n, q.right)
 }
 
 // The same turned over.
-fn put_turned(room: &mut [u8], at: usize, n: usize, left: usize, sign: u8, right: usize) -> usize
-    requires { (at + 14 ≤ length room.old) × (left < most_lines) × (right < most_lines) }
-    ensures put { Put room.old at (turned (line_name n left) sign (line_name n right)) room.new result }
+fn put_turned(room: &mut [u8], at: usize, q: Operands, sign: u8) -> usize
+    requires { at + 14 ≤ length room.old }
+    ensures put { Put room.old at (turned (line_name q.n q.left) sign (line_name q.n q.right)) room.new result }
     ensures upper_bound { result ≤ at + 14 }
 {
     let inner = text::put(room, at, b"~(");
-    let end = put_joined(room, inner, n, left, sign, right);
+    let end = put_joined(room, inner, q, sign);
     text::put(room, end, b")")
 }
 
@@ -60,39 +71,31 @@ fn put_not(room: &mut [u8], at: usize, n: usize, line: usize) -> usize
 }
 
 // The formula of a gate by its kind.
-fn put_formula(room: &mut [u8], at: usize, n: usize, kind: u8, left: usize, right: usize) -> usize
-    requires { (at + 14 ≤ length room.old) × (left < most_lines) × (right < most_lines) }
-    ensures put { Put room.old at (formula (kind_of kind) (line_name n left) (line_name n right)) room.new result }
+fn put_formula(room: &mut [u8], at: usize, kind: u8, q: Operands) -> usize
+    requires { at + 14 ≤ length room.old }
+    ensures put { Put room.old at (formula (kind_of kind) (line_name q.n q.left) (line_name q.n q.right)) room.new result }
     ensures upper_bound { result ≤ at + 14 }
 {
     match kind {
-        0 => put_joined(room, at, n, left, b'^', right), // XOR
-        1 => put_turned(room, at, n, left, b'^', right), // XNOR
-        2 => put_joined(room, at, n, left, b'&', right), // AND
-        3 => put_turned(room, at, n, left, b'&', right), // NAND
-        4 => put_joined(room, at, n, left, b'|', right), // OR
-        5 => put_turned(room, at, n, left, b'|', right), // NOR
-        6..=255 => put_not(room, at, n, left), // NOT
+        0 => put_joined(room, at, q, b'^'), // XOR
+        1 => put_turned(room, at, q, b'^'), // XNOR
+        2 => put_joined(room, at, q, b'&'), // AND
+        3 => put_turned(room, at, q, b'&'), // NAND
+        4 => put_joined(room, at, q, b'|'), // OR
+        5 => put_turned(room, at, q, b'|'), // NOR
+        6..=255 => put_not(room, at, q.n, q.left), // NOT
     }
 }
 
 // The line of gate k.
-fn put_gate(
-    room: &mut [u8],
-    at: usize,
-    n: usize,
-    k: usize,
-    kind: u8,
-    left: usize,
-    right: usize,
-) -> usize
-    requires { (at + 22 ≤ length room.old) × (k < most_gates) × (left < most_lines) × (right < most_lines) }
-    ensures put { Put room.old at (gate_line n k (gate kind left right)) room.new result }
+fn put_gate(room: &mut [u8], at: usize, k: usize, kind: u8, q: Operands) -> usize
+    requires { (at + 22 ≤ length room.old) × (k < most_gates) }
+    ensures put { Put room.old at (gate_line q.n k (gate kind q.left q.right)) room.new result }
     ensures upper_bound { result ≤ at + 22 }
 {
     let named = put_numbered(room, at, b't', k as u8);
     let start = text::put(room, named, b" = ");
-    let end = put_formula(room, start, n, kind, left, right);
+    let end = put_formula(room, start, kind, q);
     text::put(room, end, b"\n")
 }
 
@@ -109,43 +112,32 @@ fn put_output(room: &mut [u8], at: usize, n: usize, j: usize, line: usize) -> us
 }
 
 // The lines of the gates.
-fn put_gates(room: &mut [u8], at: usize, c: Circuit) -> usize
-    requires { (at + 22 * c.g ≤ length room.old) × (c.g ≤ most_gates) }
-    ensures put { Put room.old at (lines_to (λ (k : ℕ). gate_line c.n k (gate_of c k)) c.g) room.new result }
-    ensures upper_bound { result ≤ at + 22 * c.g }
+fn put_gates(room: &mut [u8], at: usize, c: &Circuit) -> usize
+    requires { (at + 22 * c.now.g ≤ length room.old) × (c.now.g ≤ most_gates) }
+    ensures put { Put room.old at (lines_to (λ (k : ℕ). gate_line c.now.n k (gate_of c.now k)) c.now.g) room.new result }
+    ensures upper_bound { result ≤ at + 22 * c.now.g }
 {
-    let n = c.n;
-    let g = c.g;
     let mut next = at;
-    let mut k: usize = 0;
-    while k < g {
-        next = put_gate(
-            room,
-            next,
-            n,
-            k,
-            c.kinds[k],
-            line_index(c.left[k]),
-            line_index(c.right[k]),
-        );
-        k += 1;
+    for k in 0..c.g {
+        let q = Operands {
+            n: c.n,
+            left: line_index(c.left[k]),
+            right: line_index(c.right[k]),
+        };
+        next = put_gate(room, next, k, c.kinds[k], q);
     }
     next
 }
 
 // The lines of the outputs.
-fn put_outputs(room: &mut [u8], at: usize, c: Circuit) -> usize
-    requires { (at + 12 * c.m ≤ length room.old) × (c.m ≤ most_outputs) }
-    ensures put { Put room.old at (lines_to (λ (j : ℕ). output_line c.n j (out_of c j)) c.m) room.new result }
-    ensures upper_bound { result ≤ at + 12 * c.m }
+fn put_outputs(room: &mut [u8], at: usize, c: &Circuit) -> usize
+    requires { (at + 12 * c.now.m ≤ length room.old) × (c.now.m ≤ most_outputs) }
+    ensures put { Put room.old at (lines_to (λ (j : ℕ). output_line c.now.n j (out_of c.now j)) c.now.m) room.new result }
+    ensures upper_bound { result ≤ at + 12 * c.now.m }
 {
-    let n = c.n;
-    let m = c.m;
     let mut next = at;
-    let mut j: usize = 0;
-    while j < m {
-        next = put_output(room, next, n, j, line_index(c.outputs[j]));
-        j += 1;
+    for j in 0..c.m {
+        next = put_output(room, next, c.n, j, line_index(c.outputs[j]));
     }
     next
 }
@@ -159,7 +151,7 @@ fn put_four(room: &mut [u8], n: usize, m: usize, g: usize, depth: u8) -> usize
     let inputs = put_labelled(room, 0, b"inputs ", n);
     let outputs = put_labelled(room, inputs, b" outputs ", m);
     let gates = put_labelled(room, outputs, b" gates ", g);
-    put_labelled(room, gates, b" depth ", depth as usize)
+    put_labelled(room, gates, b" depth ", usize::from(depth))
 }
 
 // The counts at the start of the room, or nothing where it is shorter than 128 bytes.
@@ -176,17 +168,14 @@ pub fn put_counts(room: &mut [u8], n: usize, m: usize, g: usize, depth: u8) -> u
 pub fn put_lines(room: &mut [u8], at: usize, c: Circuit) -> usize
     ensures { PutFree room.old at lines_size (lines_in c) room.new result }
 {
-    let n = c.n;
-    let m = c.m;
-    let g = c.g;
     if !is_free(room.len(), at, 6000) {
         return at;
     }
-    if !is_shape(n, m, g) {
+    if !is_shape(c.n, c.m, c.g) {
         return at;
     }
-    let next = put_gates(room, at, c);
-    put_outputs(room, next, c)
+    let next = put_gates(room, at, &c);
+    put_outputs(room, next, &c)
 }
 
 // `refused` and the number at the start of the room, or nothing where it is shorter than 32 bytes.

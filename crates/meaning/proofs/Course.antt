@@ -1,4 +1,5 @@
 -- From assignment to assignment: the line of each name that was set holds what its formula said of the names before it.
+use Rattle.std.specs.Prelude.{Option, Some}
 use mathlib.Core.Path.{◌≡◌, refl, sym, ap, subst, ◌∙◌}
 use mathlib.Core.Bool.{Bool, true, false, cond}
 use mathlib.Core.Logic.{◌⊎◌, inl, inr}
@@ -9,10 +10,8 @@ use lib.Dec.{eqb}
 use Rattle.circuit.specs.Sizes.{most_inputs, most_gates}
 use Rattle.formula.specs.Text.{word_end}
 use Rattle.formula.specs.Tree.{Tree}
-use Rattle.formula.specs.Names.{input_of}
+use Rattle.formula.specs.Names.{no_names, input_of}
 use Rattle.formula.specs.Emit.{no_gates, gates_of, line_of}
-use Rattle.formula.specs.declared.Found.{Found}
-use Rattle.formula.specs.declared.Found.TheVariants.{Line}
 use Rattle.grammar.specs.File.{Assignment}
 use Rattle.sheet.specs.declared.Book.{Book}
 use Rattle.sheet.specs.Sheet.{no_book}
@@ -65,22 +64,22 @@ module _ (s : List ℕ) where
       pub holds : (test : ℕ → Bool) → Alone test → Each (λ (r : Row). test r.start ≡ true → search test held ≡ value_at n few x b.gates r.line) b
 
     pub stands_none : Stands no_book []
-    unfolding no_book no_gates
+    unfolding no_book no_names no_gates
     stands_none = record { ready = record { sized = none_sized; sound = λ k h. absurd (omega arith); up = omega arith }; fits = λ i h. absurd (omega arith); holds = λ test w i h. absurd (omega arith) }
 
     -- each name that is known has its value
     knows : (b : Book) (held : List Held) (p : ℕ) → Stands b held → Table s p b → Knows s (look_for s b) n few x (name_on s x held) b.gates
     knows b held p w t a v short e = by (known_row s p b t a v short e)
       where
-        by : (input_of s a (word_end s a) ≡ Line v) ⊎ SetRow s b a v → Input s (look_for s b) n few x (name_on s x held) a v ⊎ Set s (look_for s b) n few x (name_on s x held) b.gates a v
-        by (inl i) = inl (record { is = i; low = input_low s a (word_end s a) v i; value = ap (λ (f : Found). input_or f x (value_in s held a)) (sym i) })
+        by : (input_of s a (word_end s a) ≡ Some v) ⊎ SetRow s b a v → Input s (look_for s b) n few x (name_on s x held) a v ⊎ Set s (look_for s b) n few x (name_on s x held) b.gates a v
+        by (inl i) = inl (record { is = i; low = input_low s a (word_end s a) v i; value = ap (λ (f : Option ℕ). input_or f x (value_in s held a)) (sym i) })
         by (inr k) =
             let r = k.entered in
             let y = w.holds (λ (p : ℕ). same_name s p a) (λ p q e f. same_meet s p q a e f) r.i r.within r.same in
             inr (record {
               none = k.none;
               fit = subst (Fit b.gates) (sym r.line) (w.fits r.i r.within);
-              value = ap (value_at n few x b.gates) r.line ∙ sym y ∙ sym (value_search held a) ∙ ap (λ (f : Found). input_or f x (value_in s held a)) (sym k.none);
+              value = ap (value_at n few x b.gates) r.line ∙ sym y ∙ sym (value_search held a) ∙ ap (λ (f : Option ℕ). input_or f x (value_in s held a)) (sym k.none);
             })
 
     -- ---- one assignment more

@@ -11,14 +11,14 @@ use Rattle.stored.specs.Writing.{write_answer}
 use Rattle.formula.specs.Sizes.{longest, nesting}
 use Rattle.formula.specs.Text.{seen, past, is_letter, in_class, word_end, wrap_with}
 use Rattle.formula.specs.Tree.{And, Xor, Tree, leaf, neg, bin, got}
-use Rattle.formula.specs.Names.{input_of, name_by, look_up, find_from, few_names, low_key, high_key, middle, part_of, appended}
+use Rattle.formula.specs.Names.{input_of, name_by, look_up, find_from, few_names, no_names, low_key, high_key, middle, part_of, appended}
 use Rattle.formula.specs.Emit.{no_gates, add_gate, invert, new_line, use_line}
 use Rattle.formula.specs.Levels.{close_tree, chain, level, bracket, paren_of, not_of, or_of}
 use Rattle.grammar.specs.File.{any_name, line_ends, sign_after, Assignment, Assigns, over, blank, assigned, File}
 use Rattle.grammar.proofs.Unique.{found-formula}
 use Rattle.grammar.proofs.Files.{any_past}
 use Rattle.sheet.specs.Sheet.{line_ended, assigning, no_book, filed}
-use Rattle.drawing.specs.declared.Drawn.TheVariants.{Stored}
+use Rattle.std.specs.Prelude.{Ok}
 use Rattle.drawing.specs.Numbering.{shift_of, few_outputs, circuit_of}
 use Rattle.drawing.specs.Drawing.{sketch_book, sketch_of, drawn_answer, drawn_bytes}
 use Rattle.drawing.specs.Outputs.{digits_from, zero_first, output_no, numbers_of, out_from, top_from, all_from, whole_of}
@@ -70,7 +70,7 @@ unfolding seen past is_letter in_class input_of inputs_in
 inputs_so = refl
 
 -- what is stored: ~x0 on line 2, x1 ^ x0 on line 3, and AND of the two on line 4; y0 is line 4 and y1 is line 2
-stored_so : (drawn_answer file 26 ≡ Stored 26)
+stored_so : (drawn_answer file 26 ≡ Ok 26)
     × (drawn_bytes file ≡ 83 ∷ 72 ∷ 2 ∷ 2 ∷ 3 ∷ 71 ∷ 84 ∷ 6 ∷ 0 ∷ 0 ∷ 71 ∷ 84 ∷ 0 ∷ 1 ∷ 0 ∷ 71 ∷ 84 ∷ 2 ∷ 2 ∷ 3 ∷ 79 ∷ 80 ∷ 4 ∷ 79 ∷ 80 ∷ 2 ∷ [])
-unfolding seen past is_letter in_class wrap_with name_by close_tree chain level bracket paren_of not_of line_ends input_of look_up find_from few_names low_key high_key middle part_of appended no_gates add_gate invert new_line use_line line_ended assigning no_book filed digits_from zero_first output_no numbers_of out_from top_from all_from whole_of shift_of few_outputs circuit_of sketch_book sketch_of drawn_answer drawn_bytes upto shaped write_answer gate_bytes out_bytes
+unfolding seen past is_letter in_class wrap_with name_by close_tree chain level bracket paren_of not_of line_ends input_of look_up find_from few_names no_names low_key high_key middle part_of appended no_gates add_gate invert new_line use_line line_ended assigning no_book filed digits_from zero_first output_no numbers_of out_from top_from all_from whole_of shift_of few_outputs circuit_of sketch_book sketch_of drawn_answer drawn_bytes upto shaped write_answer gate_bytes out_bytes
 stored_so = (refl, refl)

@@ -1,12 +1,13 @@
 -- A formula whose names are known makes as many gates as it has operators, in the order in which they are worked, and its line
 -- holds what it says.
+use Rattle.std.specs.Prelude.{Option, Some, None}
 use mathlib.Core.Path.{◌≡◌, refl, sym, ap, ap₂, subst, ◌∙◌}
 use mathlib.Core.Bool.{false}
 use mathlib.Core.Logic.{◌⊎◌, inl, inr}
 use mathlib.Core.List.{List, [], ◌∷◌, append-nil}
 use Prim.Native.Nat.{ℕ, ◌+◌, ◌-◌, ◌≤◌, ◌<◌, min, max}
 use native.Mathlib.Omega.{arith}
-use Rattle.circuit.specs.declared.Answer.TheVariants.{Done}
+use Rattle.circuit.specs.Rules.{done}
 use Rattle.circuit.specs.Sizes.{most_inputs, most_gates}
 use Rattle.circuit.specs.Gate.{kind_of, bit, truth}
 use Rattle.circuit.specs.Lines.{gate}
@@ -17,8 +18,6 @@ use Rattle.formula.specs.Tree.{Op, kind_no, Tree, leaf}
 use Rattle.formula.specs.Names.{input_of}
 use Rattle.formula.specs.Emit.{add_gate, invert, new_line, gates_of, line_of}
 use Rattle.formula.specs.declared.Gates.{Gates}
-use Rattle.formula.specs.declared.Found.{Found}
-use Rattle.formula.specs.declared.Found.TheVariants.{Line, Nothing}
 use Rattle.drawing.specs.Numbering.{shift_of}
 use Rattle.meaning.specs.Meaning.{apply, says, operators, worked_kinds, input_count, inputs_read}
 use Rattle.meaning.proofs.Twins.{Lined, name, not, both}
@@ -26,7 +25,7 @@ use Rattle.meaning.proofs.Growth.{Grown, add_grown, invert_grown, new_line_is, a
 use Rattle.meaning.proofs.Values.{op_truth, op_kind, Fit, shift_low, shift_below, Ready, two_done, not_done, value_at, input_held, After, fit_after, after_trans, ready_after, recount, after_grown, new_held}
 
 -- how many gates there are after a formula: past the most that there is room for the count goes on by one
-pub counts : (s : List ℕ) (look : ℕ → ℕ → Found) (u t : Tree) (g : Gates) → Lined s look u t → g.count ≤ most_gates + 1 → (gates_of t g).count ≡ min (most_gates + 1) (g.count + operators u)
+pub counts : (s : List ℕ) (look : ℕ → ℕ → Option ℕ) (u t : Tree) (g : Gates) → Lined s look u t → g.count ≤ most_gates + 1 → (gates_of t g).count ≡ min (most_gates + 1) (g.count + operators u)
 counts s look u t g (name {v = v} l e) h = ap (λ (g : Gates). g.count) (use_is g v) ∙ omega arith
 counts s look u t g (not {u = w} {t = z} l) h =
     let e = counts s look w z g l h in
@@ -36,22 +35,22 @@ counts s look u t g (both {o = o} {a = a} {b = b} {c = c} {d = d} l r) h =
     let f = counts s look b d (gates_of c g) r (omega arith) in
     add-count (gates_of d (gates_of c g)) (kind_no o) (line_of c g) (line_of d (gates_of c g)) (omega arith) ∙ omega arith
 
-module _ (s : List ℕ) (look : ℕ → ℕ → Found) (n : ℕ) (few : n ≤ most_inputs) (x : ℕ) (nm : ℕ → ℕ) where
+module _ (s : List ℕ) (look : ℕ → ℕ → Option ℕ) (n : ℕ) (few : n ≤ most_inputs) (x : ℕ) (nm : ℕ → ℕ) where
   -- the name at a is input v
   pub record Input (a v : ℕ) : Type 0 where
-    pub is : input_of s a (word_end s a) ≡ Line v
+    pub is : input_of s a (word_end s a) ≡ Some v
     pub low : v < most_inputs
     pub value : bit v x ≡ nm a
 
   -- the name at a was set, and its line is v
   pub record Set (g : Gates) (a v : ℕ) : Type 0 where
-    pub none : input_of s a (word_end s a) ≡ Nothing
+    pub none : input_of s a (word_end s a) ≡ None
     pub fit : Fit g v
     pub value : value_at n few x g v ≡ nm a
 
   -- each name that is known is one of these after the gates g
   abbrev pub Knows : Gates → Type 0
-  Knows g = (a v : ℕ) → word_end s a - a ≤ longest → look a (word_end s a) ≡ Line v → Input a v ⊎ Set g a v
+  Knows g = (a v : ℕ) → word_end s a - a ≤ longest → look a (word_end s a) ≡ Some v → Input a v ⊎ Set g a v
 
   knows_later : (g h : Gates) (m r : ℕ) (ks : List ℕ) → After n few x g h m r ks → Knows g → Knows h
   knows_later g h m r ks w k a v l e = by (k a v l e)
@@ -98,7 +97,7 @@ module _ (s : List ℕ) (look : ℕ → ℕ → Found) (n : ℕ) (few : n ≤ mo
     value : value_at n few x h v ≡ truth (kind_of k) (value_at n few x g a) (value_at n few x g b)
 
   module _ (g : Gates) (y : Ready n few g) (room : g.count < most_gates) where
-    grown_step : (h : Gates) (k a b : ℕ) → Grown g h (gate k a b) → gate_answer false (n + g.count) (gate k (shift_of n a) (shift_of n b)) ≡ Done → Step g h k a b (new_line g.count)
+    grown_step : (h : Gates) (k a b : ℕ) → Grown g h (gate k a b) → gate_answer false (n + g.count) (gate k (shift_of n a) (shift_of n b)) ≡ done → Step g h k a b (new_line g.count)
     grown_step h k a b w d =
         let e = new_line_is g.count room in
         record {

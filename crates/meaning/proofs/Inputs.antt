@@ -1,4 +1,5 @@
 -- How many inputs are read: one more than the highest that a formula names, also where there are more operators than gates.
+use Rattle.std.specs.Prelude.{Option, Some, None}
 use mathlib.Core.Path.{◌≡◌, refl, sym, ap, subst, ◌∙◌}
 use mathlib.Core.Bool.{Bool, true, false, cond}
 use mathlib.Core.Logic.{◌⊎◌, inl, inr, ⊎_elim}
@@ -15,8 +16,6 @@ use Rattle.formula.specs.Tree.{Tree, leaf, neg, bin, kind_no}
 use Rattle.formula.specs.Names.{input_of}
 use Rattle.formula.specs.Emit.{new_line, gates_of, line_of}
 use Rattle.formula.specs.declared.Gates.{Gates}
-use Rattle.formula.specs.declared.Found.{Found}
-use Rattle.formula.specs.declared.Found.TheVariants.{Line, Nothing}
 use Rattle.grammar.specs.File.{Assignment}
 use Rattle.sheet.specs.declared.Book.{Book}
 use Rattle.meaning.specs.Meaning.{input_count, inputs_read, inputs_in}
@@ -27,11 +26,11 @@ use Rattle.meaning.proofs.Tables.{Row, Each, each_set, known_row}
 
 -- ---- inputs are x0 to x7
 
-pub input_low : (s : List ℕ) (p e v : ℕ) → input_of s p e ≡ Line v → v < most_inputs
+pub input_low : (s : List ℕ) (p e v : ℕ) → input_of s p e ≡ Some v → v < most_inputs
 unfolding input_of
 input_low s p e v h = by (eqb (e - p) 2) (seen s p 120) (leb 48 (get_or s (p + 1) 0)) (leb (get_or s (p + 1) 0) 55) refl h
   where
-    by : (a b c d : Bool) → leb (get_or s (p + 1) 0) 55 ≡ d → cond a (cond b (cond c (cond d (Line (get_or s (p + 1) 0 - 48)) Nothing) Nothing) Nothing) Nothing ≡ Line v → v < most_inputs
+    by : (a b c d : Bool) → leb (get_or s (p + 1) 0) 55 ≡ d → cond a (cond b (cond c (cond d (Some (get_or s (p + 1) 0 - 48)) None) None) None) None ≡ Some v → v < most_inputs
     by true true true true e h = let k : get_or s (p + 1) 0 - 48 ≡ v = cc in omega (arith, leb-true (get_or s (p + 1) 0) 55 e)
     by true true true false e h = let z : ◌≡◌ {A = ℕ} 0 1 = cc in absurd (omega arith)
     by true true false d e h = let z : ◌≡◌ {A = ℕ} 0 1 = cc in absurd (omega arith)
@@ -41,9 +40,9 @@ input_low s p e v h = by (eqb (e - p) 2) (seen s p 120) (leb 48 (get_or s (p + 1
 read_few : (s : List ℕ) (u : Tree) → inputs_read s u ≤ most_inputs
 read_few s (leaf p) = by (input_of s p (word_end s p)) refl
   where
-    by : (f : Found) → input_of s p (word_end s p) ≡ f → input_count f ≤ most_inputs
-    by (Line v) e = omega (arith, input_low s p (word_end s p) v e)
-    by Nothing e = omega arith
+    by : (f : Option ℕ) → input_of s p (word_end s p) ≡ f → input_count f ≤ most_inputs
+    by (Some v) e = omega (arith, input_low s p (word_end s p) v e)
+    by None e = omega arith
 read_few s (neg u) = read_few s u
 read_few s (bin o a b) = omega (arith, read_few s a, read_few s b)
 
@@ -69,17 +68,17 @@ new_counted h k e = (e, λ l. by (ltb k most_gates) l)
 
 -- ---- a formula
 
-module _ (s : List ℕ) (look : ℕ → ℕ → Found) where
+module _ (s : List ℕ) (look : ℕ → ℕ → Option ℕ) where
   -- each name that is known is an input, or was set and has a line that is counted among h
   abbrev Knows : ℕ → Type 0
-  Knows h = (a v : ℕ) → word_end s a - a ≤ longest → look a (word_end s a) ≡ Line v → (input_of s a (word_end s a) ≡ Line v) ⊎ ((input_of s a (word_end s a) ≡ Nothing) × Counted h v)
+  Knows h = (a v : ℕ) → word_end s a - a ≤ longest → look a (word_end s a) ≡ Some v → (input_of s a (word_end s a) ≡ Some v) ⊎ ((input_of s a (word_end s a) ≡ None) × Counted h v)
 
   -- the inputs that are read after a formula u, whose lines are those of t, are those before and its own
   record Reads (u t : Tree) (g : Gates) : Type 0 where
     high : (gates_of t g).high ≡ max g.high (inputs_read s u)
     line : Counted (gates_of t g).high (line_of t g)
 
-  leaf_reads : (a v : ℕ) (g : Gates) → (input_of s a (word_end s a) ≡ Line v) ⊎ ((input_of s a (word_end s a) ≡ Nothing) × Counted g.high v) → Reads (leaf a) (leaf v) g
+  leaf_reads : (a v : ℕ) (g : Gates) → (input_of s a (word_end s a) ≡ Some v) ⊎ ((input_of s a (word_end s a) ≡ None) × Counted g.high v) → Reads (leaf a) (leaf v) g
   leaf_reads a v g (inl i) =
       let e = ap input_count i in
       let h = ap (λ (g : Gates). g.high) (use_is g v) ∙ high_input g.high v (input_low s a (word_end s a) v i) in

@@ -1,4 +1,5 @@
 -- Why a file that was read has no circuit: 17 and 1, in the words of its reading.
+use Rattle.std.specs.Prelude.{Ok}
 use mathlib.Core.Path.{◌≡◌, sym, ap, ◌∙◌}
 use mathlib.Core.Bool.{true, false}
 use mathlib.Core.Logic.{◌↔◌, ◌⊎◌, inl, inr, ⊎_elim}
@@ -10,7 +11,6 @@ use Rattle.circuit.proofs.LineLaws.{place}
 use Rattle.formula.specs.Names.{is_line}
 use Rattle.grammar.specs.File.{Assignment, File}
 use Rattle.sheet.specs.declared.Book.{Book}
-use Rattle.sheet.specs.declared.Step.TheVariants.{On}
 use Rattle.sheet.specs.Sheet.{file_of}
 use Rattle.drawing.specs.Outputs.{top_of}
 use Rattle.drawing.specs.Numbering.{circuit_of}
@@ -21,12 +21,12 @@ use Rattle.meaning.proofs.Outs.{Missing, Whole, whole, not-whole}
 use Rattle.meaning.proofs.Circuits.{few-outputs}
 use Rattle.meaning.proofs.Books.{few-names, count_is, inputs_are, few_inputs, sets_is, set_below, unset_above, highest_set}
 
-module _ (s : List ℕ) (l : List Assignment) (file : File s l) (q : ℕ) (read : (file_of s).step ≡ On q) where
+module _ (s : List ℕ) (l : List Assignment) (file : File s l) (q : ℕ) (read : (file_of s).step ≡ Ok q) where
   abbrev b : Book
   b = (file_of s).book
 
   abbrev top : ℕ
-  top = top_of (numbers_in s b) b.n
+  top = top_of (numbers_in s b) b.names.n
 
   -- ---- 17: no input is read, no output is set, or one is set and one below it is not
 
@@ -52,7 +52,7 @@ module _ (s : List ℕ) (l : List Assignment) (file : File s l) (q : ℕ) (read 
       → (inputs_in s l ≡ 0) ⊎ (((j : ℕ) → sets_output s l j ≡ false) ⊎ ((j : ℕ) × (k : ℕ) × (j < k) × (sets_output s l j ≡ false) × (sets_output s l k ≡ true)))
   broken e = ⊎_elim (λ h. inl (sym (inputs_are s l file q read) ∙ h)) (λ m. inr (⊎_elim (λ h. inl (λ j. unset_above s l file q read j (omega arith))) (λ m. inr (gap m)) m)) (not-whole s b (few-names s l file q read) e)
     where
-      gap : Missing (numbers_in s b) b.lines b.n top 0 → (j : ℕ) × (k : ℕ) × (j < k) × (sets_output s l j ≡ false) × (sets_output s l k ≡ true)
+      gap : Missing (numbers_in s b) b.names.lines b.names.n top 0 → (j : ℕ) × (k : ℕ) × (j < k) × (sets_output s l j ≡ false) × (sets_output s l k ≡ true)
       gap m =
           let j = m.at in
           let k = top - 1 in

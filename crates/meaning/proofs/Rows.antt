@@ -1,4 +1,5 @@
 -- A file that was read is its assignments in order: each sets a new name, whose line is that of the gates of its formula.
+use Rattle.std.specs.Prelude.{Option, None, Ok}
 use mathlib.Core.Path.{◌≡◌, refl, sym, subst, ◌∙◌}
 use mathlib.Core.Bool.{true, false}
 use mathlib.Core.List.{List, [], ◌∷◌}
@@ -11,17 +12,13 @@ use Rattle.formula.specs.Tree.{Tree}
 use Rattle.formula.specs.Names.{look_up}
 use Rattle.formula.specs.Emit.{gates_of, line_of}
 use Rattle.formula.specs.declared.Class.TheVariants.{Letter}
-use Rattle.formula.specs.declared.Found.{Found}
-use Rattle.formula.specs.declared.Found.TheVariants.{Nothing}
 use Rattle.formula.proofs.Laws.{past_in, seen_in}
 use Rattle.grammar.specs.File.{sign_after, Assignment, Assigns, Lines, over, blank, assigned, File}
 use Rattle.grammar.proofs.Bytes.{past_hits, letter_not, byte_seen}
 use Rattle.grammar.proofs.Unique.{got_is}
 use Rattle.grammar.proofs.Files.{assigns_found}
 use Rattle.sheet.specs.declared.Book.{Book}
-use Rattle.sheet.specs.declared.Sheet.{Sheet}
-use Rattle.sheet.specs.declared.Step.TheVariants.{On}
-use Rattle.sheet.specs.Sheet.{no_book, set_name, file_of}
+use Rattle.sheet.specs.Sheet.{no_book, set_name, Sheet, file_of}
 use Rattle.sheet.proofs.Shape.{Made}
 use Rattle.known.proofs.Words.{clash}
 use Rattle.known.proofs.Table.{Table}
@@ -31,8 +28,8 @@ use Rattle.meaning.proofs.Twins.{Lined, twin}
 
 module _ (s : List ℕ) where
   -- what the table of a book knows of the name from one place to another
-  abbrev pub look_for : Book → ℕ → ℕ → Found
-  look_for b = look_up s b.low b.high b.lines b.n
+  abbrev pub look_for : Book → ℕ → ℕ → Option ℕ
+  look_for b = look_up s b.names.low b.names.high b.names.lines b.names.n
 
   -- a book with one assignment more: the name at p, which is the formula t
   abbrev pub with_name : Book → ℕ → Tree → Book
@@ -42,9 +39,9 @@ module _ (s : List ℕ) where
   pub record New (b : Book) (p : ℕ) : Type 0 where
     pub line : ℕ
     pub table : Table s line b
-    pub room : b.n < most_names
+    pub room : b.names.n < most_names
     pub short : word_end s p - p ≤ longest
-    pub unknown : look_for b p (word_end s p) ≡ Nothing
+    pub unknown : look_for b p (word_end s p) ≡ None
 
   -- from one book some assignments lead to another
   pub data Leads : Book → List Assignment → Book → Type 0 where
@@ -120,9 +117,9 @@ module _ (s : List ℕ) where
             }
 
   -- the book of a file that was read is where its reading leads
-  pub file_leads : (x : ℕ) (l : List Assignment) → (file_of s).step ≡ On x → File s l → Leads no_book l (file_of s).book
+  pub file_leads : (x : ℕ) (l : List Assignment) → (file_of s).step ≡ Ok x → File s l → Leads no_book l (file_of s).book
   file_leads x l e w =
-      file_by s (Ahead l) (λ (r : Sheet). (x : ℕ) → r.step ≡ On x → Leads no_book l r.book)
+      file_by s (Ahead l) (λ (r : Sheet). (x : ℕ) → r.step ≡ Ok x → Leads no_book l r.book)
       (λ p b a h x e. at_end l p b a h) (at_blank l) (λ p z b a st m. at_name l p z b a st m)
       (λ p b w a st k x e. let z : ◌≡◌ {A = ℕ} 0 1 = cc in absurd (omega arith))
       (record { before = before_none s; count = 0; rest = l; lines = w; leads = λ e g. g }) x e

@@ -1,4 +1,5 @@
 -- The circuit of a file gives what the file says, on each input value and at each output; and what it is made of.
+use Rattle.std.specs.Prelude.{Ok}
 use mathlib.Core.Path.{◌≡◌, sym, ap, subst, ◌∙◌}
 use mathlib.Core.Bool.{true, false}
 use mathlib.Core.Logic.{⊎_elim}
@@ -8,18 +9,17 @@ use native.Mathlib.Omega.{arith}
 use borrow.Author.Tests.{eqb-true, eq-eqb, lt-ltb, le-ltb}
 use lib.Dec.{ltb, eqb}
 use lib.ListN.{length, get_or}
-use Rattle.circuit.specs.declared.Answer.TheVariants.{Done}
+use Rattle.circuit.specs.Rules.{done}
 use Rattle.circuit.specs.Sizes.{most_inputs, most_outputs, most_gates}
 use Rattle.circuit.specs.Lines.{Gate, upto, values, output_on}
 use Rattle.circuit.specs.Structs.{gate_of, out_of, listed}
 use Rattle.circuit.specs.Rules.{gate_answer, listing_answer}
 use Rattle.circuit.proofs.LineLaws.{place}
 use Rattle.circuit.proofs.Upto.{upto-length, map-upto}
-use Rattle.formula.specs.Names.{is_line}
+use Rattle.formula.specs.Names.{no_names, is_line}
 use Rattle.formula.specs.Emit.{no_gates}
 use Rattle.grammar.specs.File.{Assignment, File}
 use Rattle.sheet.specs.declared.Book.{Book}
-use Rattle.sheet.specs.declared.Step.TheVariants.{On}
 use Rattle.sheet.specs.Sheet.{no_book, file_of}
 use Rattle.drawing.specs.Outputs.{output_no, top_of}
 use Rattle.drawing.specs.Numbering.{circuit_of}
@@ -39,7 +39,7 @@ output_alone s j p q e f = alike_same s p q (output_alike s p q j (eqb-true (out
 
 -- ---- a file that was read, and its reading
 
-module _ (s : List ℕ) (l : List Assignment) (file : File s l) (q : ℕ) (read : (file_of s).step ≡ On q) where
+module _ (s : List ℕ) (l : List Assignment) (file : File s l) (q : ℕ) (read : (file_of s).step ≡ Ok q) where
   abbrev b : Book
   b = (file_of s).book
 
@@ -52,14 +52,14 @@ module _ (s : List ℕ) (l : List Assignment) (file : File s l) (q : ℕ) (read 
 
     -- from the first assignment to the last, on input value x
     run : (x : ℕ) → Course s b.gates.high few x no_book b [] l
-    unfolding no_book no_gates
+    unfolding no_book no_names no_gates
     run x =
         course s b.gates.high few x no_book b [] l (leads s l file q read) (stands_none s b.gates.high few x)
         (omega (arith, few_operators)) (omega (arith, inputs_are s l file q read))
 
     -- the gates are the operators in the order in which they are worked
     pub kinds_are : map (λ (q : Gate). q.kind) (listed (circuit_in s b)).gates ≡ kinds_in l
-    unfolding circuit_of no_book no_gates upto
+    unfolding circuit_of no_book no_names no_gates upto
     kinds_are = map-upto (λ (q : Gate). q.kind) (gate_of (circuit_in s b)) b.gates.count ∙ (run 0).grown.kinds
 
     -- one for each
@@ -69,9 +69,9 @@ module _ (s : List ℕ) (l : List Assignment) (file : File s l) (q : ℕ) (read 
 
     -- ---- whose outputs are whole
 
-    module _ (ok : whole_book s b ≡ true) (few-outs : top_of (numbers_in s b) b.n ≤ most_outputs) where
+    module _ (ok : whole_book s b ≡ true) (few-outs : top_of (numbers_in s b) b.names.n ≤ most_outputs) where
       abbrev top : ℕ
-      top = top_of (numbers_in s b) b.n
+      top = top_of (numbers_in s b) b.names.n
 
       parts : Whole s b (few-names s l file q read)
       parts = whole s b (few-names s l file q read) ok
@@ -81,7 +81,7 @@ module _ (s : List ℕ) (l : List Assignment) (file : File s l) (q : ℕ) (read 
       outs_is = few-outputs top ∙ omega arith
 
       -- output j: its row, and the line
-      shown : (j : ℕ) → j < top → There (numbers_in s b) b.lines b.n j
+      shown : (j : ℕ) → j < top → There (numbers_in s b) b.names.lines b.names.n j
       shown = parts.each
 
       out_fits : (j : ℕ) (h : j < top) → Fit b.gates (shown j h).line
@@ -104,7 +104,7 @@ module _ (s : List ℕ) (l : List Assignment) (file : File s l) (q : ℕ) (read 
           ∙ sym (output_search s (after s x [] l) j)
 
       -- the circuit is refused for nothing
-      pub opens_listing : listing_answer false (listed (circuit_in s b)) ≡ Done
+      pub opens_listing : listing_answer false (listed (circuit_in s b)) ≡ done
       unfolding circuit_of
       opens_listing =
           let sound = (run 0).grown.sound in

@@ -1,4 +1,5 @@
 -- The reader over a table finds the formula of the grammar, with the line of each name in the name's place.
+use Rattle.std.specs.Prelude.{Option, Some, None}
 use mathlib.Core.Path.{◌≡◌, refl, sym, subst}
 use mathlib.Core.Bool.{Bool, true, false, cond}
 use mathlib.Core.Logic.{inl, inr}
@@ -12,18 +13,16 @@ use Rattle.formula.specs.Text.{seen, skip_of, tildes_of, word_end, wrap_with}
 use Rattle.formula.specs.Tree.{Op, And, Xor, Or, Tree, leaf, neg, bin, got, bad}
 use Rattle.formula.specs.Names.{named, name_by}
 use Rattle.formula.specs.Levels.{or_of}
-use Rattle.formula.specs.declared.Found.{Found}
-use Rattle.formula.specs.declared.Found.TheVariants.{Line, Nothing}
 use Rattle.formula.proofs.Reading.{name_past}
 use Rattle.grammar.specs.Grammar.{Chain, one, more, Atom, Inverted, Whole, Bracket}
 use Rattle.grammar.specs.File.{any_name}
 use Rattle.grammar.proofs.Unique.{got_is, formula-found, found-formula}
 use Rattle.grammar.proofs.Files.{any_past}
 
-module _ (s : List ℕ) (look : ℕ → ℕ → Found) where
+module _ (s : List ℕ) (look : ℕ → ℕ → Option ℕ) where
   -- the second formula is the first with the line of each name, which is short enough, in the name's place
   pub data Lined : Tree → Tree → Type 0 where
-    name : {a v : ℕ} → word_end s a - a ≤ longest → look a (word_end s a) ≡ Line v → Lined (leaf a) (leaf v)
+    name : {a v : ℕ} → word_end s a - a ≤ longest → look a (word_end s a) ≡ Some v → Lined (leaf a) (leaf v)
     not : {u t : Tree} → Lined u t → Lined (neg u) (neg t)
     both : {o : Op} {a b c d : Tree} → Lined a c → Lined b d → Lined (bin o a b) (bin o c d)
 
@@ -69,13 +68,13 @@ module _ (s : List ℕ) (look : ℕ → ℕ → Found) where
   unfolding name_by
   named_twin p q t e = by (leb (word_end s p) p) (ltb longest (word_end s p - p)) refl (look p (word_end s p)) refl e
     where
-      by : (a b : Bool) → ltb longest (word_end s p - p) ≡ b → (f : Found) → look p (word_end s p) ≡ f
+      by : (a b : Bool) → ltb longest (word_end s p - p) ≡ b → (f : Option ℕ) → look p (word_end s p) ≡ f
           → cond a (bad p) (cond b (bad (p + longest)) (named s (word_end s p) f)) ≡ got q t
-          → (cond a (bad p) (cond b (bad (p + longest)) (named s (word_end s p) (Line p))) ≡ got q (leaf p)) × Lined (leaf p) t
+          → (cond a (bad p) (cond b (bad (p + longest)) (named s (word_end s p) (Some p))) ≡ got q (leaf p)) × Lined (leaf p) t
       by true b eb f ef e = let z : ◌≡◌ {A = ℕ} 0 1 = cc in absurd (omega arith)
       by false true eb f ef e = let z : ◌≡◌ {A = ℕ} 0 1 = cc in absurd (omega arith)
-      by false false eb Nothing ef e = let z : ◌≡◌ {A = ℕ} 0 1 = cc in absurd (omega arith)
-      by false false eb (Line v) ef e =
+      by false false eb None ef e = let z : ◌≡◌ {A = ℕ} 0 1 = cc in absurd (omega arith)
+      by false false eb (Some v) ef e =
           got_is (λ q t. (got (skip_of s (word_end s p)) (leaf p) ≡ got q (leaf p)) × Lined (leaf p) t) (skip_of s (word_end s p)) q (leaf v) t e
           (refl, name (ltb-false longest (word_end s p - p) eb) ef)
 

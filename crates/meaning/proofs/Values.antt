@@ -5,10 +5,10 @@ use mathlib.Core.Logic.{⊎_elim}
 use mathlib.Core.List.{List, [], ◌∷◌, ◌++◌, map, append_assoc, append-nil}
 use Prim.Native.Nat.{ℕ, ◌+◌, ◌-◌, ◌≤◌, ◌<◌, max}
 use native.Mathlib.Omega.{arith}
-use borrow.Author.Tests.{lt-ltb, le-leb}
+use borrow.Author.Tests.{lt-ltb, le-ltb, le-leb}
 use lib.ListN.{length, get_or, take, get_or-append}
 use lib.Seq.{get_or_at}
-use Rattle.circuit.specs.declared.Answer.TheVariants.{Done}
+use Rattle.circuit.specs.Rules.{done}
 use Rattle.circuit.specs.Sizes.{most_inputs}
 use Rattle.circuit.specs.Gate.{Kind, XOR, XNOR, AND, NAND, OR, NOR, NOT, kind_of, bit, truth, operands}
 use Rattle.circuit.specs.Lines.{Gate, gate, reads, upto, lines, truth_step, inputs_on, values}
@@ -19,7 +19,6 @@ use Rattle.circuit.proofs.Upto.{upto-suc, upto_same, upto_at, upto-length}
 use Rattle.formula.specs.Tree.{Op, And, Xor, Or, kind_no}
 use Rattle.formula.specs.declared.Gates.{Gates}
 use Rattle.drawing.specs.Numbering.{shift_of}
-use Rattle.drawing.proofs.Sketching.{shift_input, shift_down}
 use Rattle.meaning.specs.Meaning.{apply}
 use Rattle.meaning.proofs.Growth.{Sized, gate_made, Grown}
 
@@ -70,10 +69,12 @@ abbrev pub kinds_of : Gates → List ℕ
 kinds_of g = upto (kind_at g) g.count
 
 pub shift_low : (n v : ℕ) → v < most_inputs → shift_of n v ≡ v
-shift_low n v h = sym (shift_input n v h)
+unfolding shift_of
+shift_low n v h = rw (lt-ltb _ _ h)
 
 shift_high : (n v : ℕ) → n ≤ most_inputs → most_inputs ≤ v → shift_of n v ≡ n + (v - most_inputs)
-shift_high n v m h = sym (shift_down n v h) ∙ omega arith
+unfolding shift_of
+shift_high n v m h = rw (le-ltb _ _ h) (omega arith)
 
 module _ (n : ℕ) (few : n ≤ most_inputs) where
   pub shift_below : (g : Gates) (v : ℕ) → g.high ≤ n → Fit g v → shift_of n v < n + g.count
@@ -85,7 +86,7 @@ module _ (n : ℕ) (few : n ≤ most_inputs) where
 
   -- each gate so far is one that no circuit is refused for
   abbrev pub Sound : Gates → Type 0
-  Sound g = (k : ℕ) → k < g.count → gate_answer false (n + k) (numbered n g k) ≡ Done
+  Sound g = (k : ℕ) → k < g.count → gate_answer false (n + k) (numbered n g k) ≡ done
 
   -- gates to which a formula may be added
   pub record Ready (g : Gates) : Type 0 where
@@ -94,11 +95,11 @@ module _ (n : ℕ) (few : n ≤ most_inputs) where
     pub up : g.high ≤ n
 
   -- a gate of two lines that are there, and a NOT of one
-  pub two_done : (line k a b : ℕ) → k ≤ 5 → a < line → b < line → gate_answer false line (gate k a b) ≡ Done
+  pub two_done : (line k a b : ℕ) → k ≤ 5 → a < line → b < line → gate_answer false line (gate k a b) ≡ done
   unfolding gate_answer
   two_done line k a b h l r = rw (le-leb k 6 (omega arith), two_fit line (gate k a b) h, lt-ltb _ _ l, lt-ltb _ _ r)
 
-  pub not_done : (line a : ℕ) → a < line → gate_answer false line (gate 6 a 0) ≡ Done
+  pub not_done : (line a : ℕ) → a < line → gate_answer false line (gate 6 a 0) ≡ done
   unfolding gate_answer
   not_done line a l = rw (one_fits line (gate 6 a 0) (omega arith), lt-ltb _ _ l)
 
@@ -160,7 +161,7 @@ module _ (n : ℕ) (few : n ≤ most_inputs) where
     after_none g y = record { sized = y.sized; sound = y.sound; count = omega arith; high = omega arith; kinds = sym (append-nil (kinds_of g)); kept = λ v e. refl }
 
     -- one gate more
-    module _ (g h : Gates) (q : Gate) (up : g.high ≤ n) (sound : Sound g) (grown : Grown g h q) (fits : gate_answer false (n + g.count) (shifted n q) ≡ Done) where
+    module _ (g h : Gates) (q : Gate) (up : g.high ≤ n) (sound : Sound g) (grown : Grown g h q) (fits : gate_answer false (n + g.count) (shifted n q) ≡ done) where
       next_held : held h ≡ held g ++ (truth (kind_of q.kind) (value_at g q.left) (value_at g q.right) ∷ [])
       next_held =
           let c = g.count in
@@ -173,13 +174,13 @@ module _ (n : ℕ) (few : n ≤ most_inputs) where
       next_sound : Sound h
       next_sound k l = ⊎_elim old (⊎_elim last (λ m. absurd (omega (arith, grown.count)))) (place k g.count)
         where
-          old : k < g.count → gate_answer false (n + k) (numbered n h k) ≡ Done
-          old m = subst (λ (r : Gate). gate_answer false (n + k) (shifted n r) ≡ Done) (sym (grown.before k m)) (sound k m)
+          old : k < g.count → gate_answer false (n + k) (numbered n h k) ≡ done
+          old m = subst (λ (r : Gate). gate_answer false (n + k) (shifted n r) ≡ done) (sym (grown.before k m)) (sound k m)
 
-          last : k ≡ g.count → gate_answer false (n + k) (numbered n h k) ≡ Done
+          last : k ≡ g.count → gate_answer false (n + k) (numbered n h k) ≡ done
           last e =
-              subst (λ (j : ℕ). gate_answer false (n + j) (numbered n h j) ≡ Done) (sym e)
-              (subst (λ (r : Gate). gate_answer false (n + g.count) (shifted n r) ≡ Done) (sym grown.here) fits)
+              subst (λ (j : ℕ). gate_answer false (n + j) (numbered n h j) ≡ done) (sym e)
+              (subst (λ (r : Gate). gate_answer false (n + g.count) (shifted n r) ≡ done) (sym grown.here) fits)
 
       next_kinds : kinds_of h ≡ kinds_of g ++ (q.kind ∷ [])
       next_kinds =

@@ -1,5 +1,6 @@
 -- What an equation file means, on trees: the value of each output on each input value, each name standing for the formula
 -- that was set before it. The reading l of a file is that of the grammar; a leaf is the place of a name.
+use Rattle.std.specs.Prelude.{Option, Some, None}
 use Rattle.std.specs.Prelude.{◌≡◌, Bool, false, cond, ◌||◌, List, [], ◌∷◌, ◌++◌, map, ℕ, suc, ◌+◌, ◌-◌, min, max, eqb, ltb, length}
 use Rattle.std.specs.Int.Bits.{differ}
 use Rattle.circuit.specs.Gate.{bit}
@@ -7,8 +8,6 @@ use Rattle.circuit.specs.Lines.{Gate, Listing}
 use Rattle.formula.specs.Text.{word_end}
 use Rattle.formula.specs.Tree.{Op, And, Xor, Or, kind_no, Tree, leaf, neg, bin}
 use Rattle.formula.specs.Names.{input_of}
-use Rattle.formula.specs.declared.Found.{Found}
-use Rattle.formula.specs.declared.Found.TheVariants.{Line, Nothing}
 use Rattle.grammar.specs.File.{Assignment}
 use Rattle.drawing.specs.Outputs.{output_no}
 use Rattle.known.specs.Known.{same_name}
@@ -36,9 +35,9 @@ value_in s [] p = 0
 value_in s (h ∷ held) p = cond (same_name s h.name p) h.value (value_in s held p)
 
 -- an input's bit of the input value x, or another value
-abbrev pub input_or : Found → ℕ → ℕ → ℕ
-input_or (Line i) x v = bit i x
-input_or Nothing x v = v
+abbrev pub input_or : Option ℕ → ℕ → ℕ → ℕ
+input_or (Some i) x v = bit i x
+input_or None x v = v
 
 -- the value of the name at p on input value x: an input's bit, or that of a name that was set
 abbrev pub name_on : List ℕ → ℕ → List Held → ℕ → ℕ
@@ -81,9 +80,9 @@ kinds_in [] = []
 kinds_in (a ∷ l) = worked_kinds a.formula ++ kinds_in l
 
 -- one more than the number of an input; 0 where there is none
-abbrev pub input_count : Found → ℕ
-input_count (Line i) = suc i
-input_count Nothing = 0
+abbrev pub input_count : Option ℕ → ℕ
+input_count (Some i) = suc i
+input_count None = 0
 
 -- one more than the highest input that a formula reads; 0 where it reads none
 abbrev pub inputs_read : List ℕ → Tree → ℕ

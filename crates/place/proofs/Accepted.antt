@@ -1,4 +1,5 @@
 -- A text is good exactly where the automaton accepts it.
+use Rattle.std.specs.Prelude.{Some}
 use mathlib.Core.Path.{◌≡◌, refl, sym, ap, subst, ◌∙◌}
 use mathlib.Core.Bool.{Bool, true, false}
 use mathlib.Core.List.{List, [], ◌∷◌}
@@ -12,7 +13,6 @@ use Rattle.formula.specs.Text.{seen, in_class, skip_of, word_end}
 use Rattle.formula.specs.Tree.{Tree, Res, got, bad, unk}
 use Rattle.formula.specs.Levels.{or_of}
 use Rattle.formula.specs.declared.Class.TheVariants.{Blank}
-use Rattle.formula.specs.declared.Found.TheVariants.{Line}
 use Rattle.formula.proofs.Laws.{past-ge}
 use Rattle.grammar.specs.File.{any_name, line_ends, sign_after, Assignment, Assigns, Lines, over, blank, assigned, Good}
 use Rattle.grammar.proofs.Unique.{found-formula}
@@ -28,7 +28,7 @@ Never q = ⊥
 
 module _ (s : List ℕ) where
   any_names : (c d o p : ℕ) → As s p (want c d o) → Plain s p → Fits s c Never (NoSpace s) d o (any_name s p)
-  any_names c d o p a w = name_fits s c Never (λ p e. Line p) d o p (λ e h l. let z : ◌≡◌ {A = ℕ} 0 1 = cc in omega arith) a w
+  any_names c d o p a w = name_fits s c Never (λ p e. Some p) d o p (λ e h l. let z : ◌≡◌ {A = ℕ} 0 1 = cc in omega arith) a w
 
   any_fits : (c p : ℕ) → As s p (want c nesting 0) → Fits s c Never (NoOp s) nesting 0 (or_of s (any_name s) nesting p)
   any_fits c p a = formula_fits s c Never (any_name s) (any_past s) (any_names c) nesting 0 p a

@@ -1,4 +1,5 @@
 -- The reader of a formula and the automaton agree, level by level.
+use Rattle.std.specs.Prelude.{Option, Some, None}
 use mathlib.Core.Path.{◌≡◌, refl, ap, ◌∙◌}
 use mathlib.Core.Bool.{Bool, true, false, cond}
 use mathlib.Core.List.{List}
@@ -13,10 +14,8 @@ use Rattle.formula.specs.Tree.{Op, And, Xor, Or, sign_of, Tree, Res, got, bad, u
 use Rattle.formula.specs.Names.{named, name_by}
 use Rattle.formula.specs.Levels.{close_tree, chain, level, bracket, paren_of, not_of, and_of, xor_of, or_of}
 use Rattle.formula.specs.declared.Class.TheVariants.{Blank, Tilde, Letter}
-use Rattle.formula.specs.declared.Found.{Found}
-use Rattle.formula.specs.declared.Found.TheVariants.{Line, Nothing}
 use Rattle.formula.proofs.Laws.{past_miss, past_end, seen_in}
-use Rattle.formula.proofs.Reading.{Past, left_of, bracket_is, not-past, and-past, xor-past}
+use Rattle.formula.proofs.Reading.{Past, bracket_is, not-past, and-past, xor-past}
 use Rattle.grammar.proofs.Bytes.{seen_out, seen_byte, seen_is, past_stops, past-none, letter_not, letter_no_tilde, no_tilde}
 use Rattle.place.proofs.Automaton.{End, sign, after, want, word, then, dead, opened, closed, ended, step, live, trace}
 use Rattle.place.proofs.Walk.{As, Stuck, stuck, moved, walk, name_as, name_long}
@@ -24,6 +23,12 @@ use Rattle.place.proofs.Walk.{As, Stuck, stuck, moved, walk, name_as, name_long}
 pub cond_same : {A : Type 0} (t : Bool) (x : A) → cond t x x ≡ x
 cond_same true x = refl
 cond_same false x = refl
+
+-- bytes left after what was found
+abbrev left_of : List ℕ → Res → ℕ
+left_of s (got p t) = length s - p
+left_of s (bad p) = 0
+left_of s (unk p) = 0
 
 -- ---- steps
 
@@ -80,8 +85,8 @@ module _ (s : List ℕ) (c : ℕ) (U : ℕ → Type 0) where
   Fits free d o (bad q) = Stuck s q
   Fits free d o (unk q) = U q
 
-  pub name_fits : (known : ℕ → ℕ → Found) (d o p : ℕ)
-      → (known p (word_end s p) ≡ Nothing → p < word_end s p → live (trace s (word_end s p)) ≡ true → U (word_end s p - 1)) → As s p (want c d o) → Plain s p → Fits (NoSpace s) d o (name_by s known p)
+  pub name_fits : (known : ℕ → ℕ → Option ℕ) (d o p : ℕ)
+      → (known p (word_end s p) ≡ None → p < word_end s p → live (trace s (word_end s p)) ≡ true → U (word_end s p - 1)) → As s p (want c d o) → Plain s p → Fits (NoSpace s) d o (name_by s known p)
   unfolding step name_by
   name_fits known d o p u a w = by (leb e p) refl (ltb longest (e - p)) refl (known p e) u
     where
@@ -97,12 +102,12 @@ module _ (s : List ℕ) (c : ℕ) (U : ℕ → Type 0) where
       passed : leb e p ≡ false → ltb longest (e - p) ≡ false → As s e (then (after c d o))
       passed et ev = name_as s (after c d o) (want c d o) begins p a (leb-false _ _ et) (ltb-false _ _ ev)
 
-      by : (t : Bool) → leb e p ≡ t → (v : Bool) → ltb longest (e - p) ≡ v → (f : Found) → (f ≡ Nothing → p < e → live (trace s e) ≡ true → U (e - 1))
+      by : (t : Bool) → leb e p ≡ t → (v : Bool) → ltb longest (e - p) ≡ v → (f : Option ℕ) → (f ≡ None → p < e → live (trace s e) ≡ true → U (e - 1))
           → Fits (NoSpace s) d o (cond t (bad p) (cond v (bad (p + longest)) (named s e f)))
       by true et v ev f u = stuck s p (want c d o) a (none (leb-true _ _ et)) (λ k. refl)
       by false et true ev f u = name_long s (after c d o) (want c d o) begins p a (ltb-true _ _ ev)
-      by false et false ev (Line x) u = skipped s (after c d o) e (passed et ev)
-      by false et false ev Nothing u = u refl (leb-false _ _ et) (passed et ev).alive
+      by false et false ev (Some x) u = skipped s (after c d o) e (passed et ev)
+      by false et false ev None u = u refl (leb-false _ _ et) (passed et ev).alive
 
   -- ---- an answer that keeps its place fits
 

@@ -1,4 +1,5 @@
 -- The place of bad text.
+use Rattle.std.specs.Prelude.{Result, Ok, Err}
 use mathlib.Core.Path.{◌≡◌, refl, sym, ap, subst, ◌∙◌}
 use mathlib.Core.Bool.{Bool, true, false}
 use mathlib.Core.List.{List, ◌++◌, append_assoc}
@@ -9,9 +10,8 @@ use lib.Dec.{ltb}
 use lib.ListN.{length, take, drop, take-append-drop}
 use lib.Seq.{take-take}
 use Rattle.grammar.specs.File.{Good, Begins, Place}
-use Rattle.sheet.specs.declared.Why.TheVariants.{Text, Name}
-use Rattle.sheet.specs.declared.Step.{Step}
-use Rattle.sheet.specs.declared.Step.TheVariants.{On, No}
+use Rattle.formula.specs.declared.Why.{Why}
+use Rattle.formula.specs.declared.Why.TheVariants.{Text, Name}
 use Rattle.sheet.specs.Sheet.{file_of}
 use Rattle.place.proofs.Automaton.{State, fresh, dead, run, ok, live, trace, trace_all, run-append, run_dead, finish, finishes}
 use Rattle.place.proofs.Walk.{Stuck}
@@ -79,19 +79,19 @@ place_unique s p q a b = by (ltb p q) refl (ltb q p) refl
 -- ---- what the reader of files says
 
 -- a text that is read is a file
-pub read_good : (s : List ℕ) (q : ℕ) → (file_of s).step ≡ On q → Good s
+pub read_good : (s : List ℕ) (q : ℕ) → (file_of s).step ≡ Ok q → Good s
 read_good s q e = accepted_good s (ap ok (sym (trace_all s)) ∙ subst (Says s) e (file-says s))
 
 -- 15 is given at the first byte that no good text has there
-pub text_place : (s : List ℕ) (p : ℕ) → (file_of s).step ≡ No (Text p) → Place s p
+pub text_place : (s : List ℕ) (p : ℕ) → (file_of s).step ≡ Err (Text p) → Place s p
 text_place s p e = stuck_place s p (subst (Says s) e (file-says s))
 
 -- where 16 is given some good text begins with all that was read, the name's last byte included
-pub name_place : (s : List ℕ) (p : ℕ) → (file_of s).step ≡ No (Name p) → Begins s (p + 1)
+pub name_place : (s : List ℕ) (p : ℕ) → (file_of s).step ≡ Err (Name p) → Begins s (p + 1)
 name_place s p e = live_begins s (p + 1) (subst (Says s) e (file-says s)).0
 
 -- so it comes before any 15
-pub name_first : (s : List ℕ) (p q : ℕ) → Place s p → (file_of s).step ≡ No (Name q) → q < p
+pub name_first : (s : List ℕ) (p q : ℕ) → Place s p → (file_of s).step ≡ Err (Name q) → q < p
 name_first s p q a e = by (ltb q p) refl
   where
     by : (t : Bool) → ltb q p ≡ t → q < p
@@ -99,19 +99,19 @@ name_first s p q a e = by (ltb q p) refl
     by false h = absurd (a.none (omega (arith, ltb-false q p h, (subst (Says s) e (file-says s)).1)) (begins_less s (p + 1) (q + 1) (omega (arith, ltb-false q p h)) (name_place s q e)))
 
 -- where no name is refused the reader reads each good text, and gives 15 at that place of any other
-module _ (s : List ℕ) (names : (q : ℕ) → (file_of s).step ≡ No (Name q) → ⊥) where
-  pub good_read : Good s → (q : ℕ) × ((file_of s).step ≡ On q)
+module _ (s : List ℕ) (names : (q : ℕ) → (file_of s).step ≡ Err (Name q) → ⊥) where
+  pub good_read : Good s → (q : ℕ) × ((file_of s).step ≡ Ok q)
   good_read g = by (file_of s).step refl
     where
-      by : (x : Step) → (file_of s).step ≡ x → (q : ℕ) × ((file_of s).step ≡ On q)
-      by (On q) e = (q, e)
-      by (No (Text q)) e = absurd (place_bad s q (text_place s q e) g)
-      by (No (Name q)) e = absurd (names q e)
+      by : (x : Result ℕ Why) → (file_of s).step ≡ x → (q : ℕ) × ((file_of s).step ≡ Ok q)
+      by (Ok q) e = (q, e)
+      by (Err (Text q)) e = absurd (place_bad s q (text_place s q e) g)
+      by (Err (Name q)) e = absurd (names q e)
 
-  pub place_text : (p : ℕ) → Place s p → (file_of s).step ≡ No (Text p)
+  pub place_text : (p : ℕ) → Place s p → (file_of s).step ≡ Err (Text p)
   place_text p a = by (file_of s).step refl
     where
-      by : (x : Step) → (file_of s).step ≡ x → (file_of s).step ≡ No (Text p)
-      by (On q) e = absurd (place_bad s p a (read_good s q e))
-      by (No (Text q)) e = e ∙ ap (λ (i : ℕ). No (Text i)) (place_unique s q p (text_place s q e) a)
-      by (No (Name q)) e = absurd (names q e)
+      by : (x : Result ℕ Why) → (file_of s).step ≡ x → (file_of s).step ≡ Err (Text p)
+      by (Ok q) e = absurd (place_bad s p a (read_good s q e))
+      by (Err (Text q)) e = e ∙ ap (λ (i : ℕ). Err (Text i)) (place_unique s q p (text_place s q e) a)
+      by (Err (Name q)) e = absurd (names q e)

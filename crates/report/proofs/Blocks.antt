@@ -2,17 +2,20 @@
 use mathlib.Core.Path.{◌≡◌, refl, ap, ◌∙◌, sym}
 use mathlib.Core.Bool.{Bool}
 use mathlib.Core.List.{[], ◌∷◌}
-use Prim.Native.Nat.{ℕ, ◌≤◌, ◌<◌, ◌+◌, ◌*◌, ◌/◌, ◌%◌}
+use Prim.Native.Nat.{ℕ, zero, suc, ◌^◌, ◌≤◌, ◌<◌, ◌+◌, ◌*◌, ◌/◌, ◌%◌}
 use native.Mathlib.Omega.{arith}
 use native.Mathlib.Nat.{add-zero, div-eq_of_lt}
 use lib.Dec.{eqb}
 use lib.ListN.{get_or}
 use lib.Pow.{pow_pos}
-use borrow.Author.Tests.{ne_eqb}
+use borrow.Author.Tests.{ne_eqb, eq-eqb}
+use Rattle.std.specs.Int.{trailing_zeros, w64}
+use Rattle.std.specs.Int.Count.{trailing_of_zero}
+use Rattle.std.proofs.lemmas.Nat.Bits.{bit_at-trailing_zeros}
 use Rattle.circuit.specs.declared.Words.{Words}
 use Rattle.circuit.specs.Gate.{bit, value_in}
 use Rattle.bench.specs.State.{least}
-use Rattle.report.proofs.Smallest.{least_same, least_shift, least-none, least_here, least-past}
+use Rattle.report.proofs.Smallest.{least_same, least_shift, least-none, least_is, least_here, least-past}
 
 -- the lowest bit that is set in a word, or 64
 abbrev pub lowest : ℕ → ℕ
@@ -22,6 +25,15 @@ pub none-lowest : (v : ℕ) → v ≡ 0 → 64 ≡ lowest v
 none-lowest v e =
     let z : (i : ℕ) → bit i v ≡ 0 = λ i. ap (bit i) e ∙ ap (λ (y : ℕ). y % 2) (div-eq_of_lt (pow_pos i)) in
     sym (least-none (λ (i : ℕ). eqb (bit i v) 1) 64 0 (λ i l u. ne_eqb (bit i v) 1 (λ q. omega (arith, z i, q))))
+
+-- it is how many bits stand below the lowest that is set
+pub trailing-lowest : (v : ℕ) → v < 2 ^ 64 → trailing_zeros w64 v ≡ lowest v
+trailing-lowest zero h = trailing_of_zero 64 ∙ none-lowest 0 refl
+trailing-lowest (suc u) h =
+    let v = suc u in
+    let t = bit_at-trailing_zeros w64 v (omega arith) h in
+    let p : ℕ → Bool = λ i. eqb (bit i v) 1 in
+    sym (least_is p 64 0 (trailing_zeros w64 v) (omega arith) t.0 (eq-eqb _ 1 t.1) (λ j l k. ne_eqb (bit j v) 1 (λ q. omega (arith, t.2 j k, q))))
 
 module _ (w : Words) where
   abbrev pub word : ℕ → ℕ

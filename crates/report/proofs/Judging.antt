@@ -1,4 +1,6 @@
 -- From what a bench holds to the report of its state. Assumes nothing.
+use Rattle.std.specs.Prelude.{Result, Ok, Err}
+use Rattle.circuit.specs.Rules.{done}
 use mathlib.Core.Path.{◌≡◌, refl, ap, ◌∙◌, sym}
 use mathlib.Core.Bool.{Bool, true, false, cond, not}
 use mathlib.Core.Logic.{⊎_elim}
@@ -11,7 +13,7 @@ use lib.Pow.{pow_mono}
 use lib.ListN.{length, get_or, take, length-map}
 use Rattle.circuit.specs.declared.Words.{Words}
 use Rattle.circuit.specs.declared.Tally.{Tally}
-use Rattle.circuit.specs.declared.Answer.TheVariants.{Done}
+use Rattle.circuit.specs.declared.Refusal.{Refusal}
 use Rattle.circuit.specs.declared.Refusal.TheVariants.{NothingOpen}
 use Rattle.circuit.specs.Gate.{no_words, value_in, tally_of}
 use Rattle.circuit.specs.Lines.{Gate, Listing, gate_at, depths, and_depths, words, output_on, overall, depth_of, and_depth_of, padded}
@@ -29,12 +31,12 @@ use Rattle.targets.proofs.Wanting.{wanted_at}
 use Rattle.bench.specs.declared.Bench.{Bench}
 use Rattle.bench.specs.declared.Verdict.{Verdict}
 use Rattle.bench.specs.declared.Verdict.TheVariants.{Wrong, OverGates, OverDepth, OverAndDepth, Pass}
-use Rattle.bench.specs.declared.Reported.{Reported}
-use Rattle.bench.specs.declared.Reported.TheVariants.{Given, NotGiven}
+use Rattle.bench.specs.declared.Report.{Report}
 use Rattle.bench.specs.State.{State, Sound, Present, report_of, differs, least, first_output, first_input, verdict_of}
 use Rattle.bench.specs.Held.{full_bench}
 use Rattle.bench.specs.Calls.{reported, ReportPromise}
-use Rattle.bench.proofs.Stood.{open_on, when-open, when_shut}
+use Rattle.bench.specs.Parts.{open_on}
+use Rattle.bench.proofs.Stood.{when-open, when_shut}
 use Rattle.report.specs.Judged.{out_words, differences, differs_in, judged_at, judged}
 use Rattle.report.proofs.Smallest.{least_same, least_here, least-past, least_from}
 use Rattle.report.proofs.Differences.{found_is}
@@ -163,7 +165,7 @@ abbrev pub at_outputs : Bench → List ℕ → ℕ
 at_outputs b ls = overall (map line_in (take b.m b.outputs)) ls
 
 -- on the bench of a state, that is what the circuit as a whole has
-at-outputs : (s : State) → listing_answer (is_matrix s.target) s.circuit ≡ Done → (ls : List ℕ) → at_outputs (full_bench s) (padded most_lines 0 ls) ≡ overall s.circuit.outs ls
+at-outputs : (s : State) → listing_answer (is_matrix s.target) s.circuit ≡ done → (ls : List ℕ) → at_outputs (full_bench s) (padded most_lines 0 ls) ≡ overall s.circuit.outs ls
 unfolding full_bench
 at-outputs s ok ls =
     let c = s.circuit in
@@ -172,13 +174,13 @@ at-outputs s ok ls =
     ap (λ (os : List ℕ). overall os (padded most_lines 0 ls)) named ∙ overall-padded ls c.outs (most_lines - length ls)
 
 -- nothing is given where nothing is open
-pub not_given : (b : Bench) → open_on b ≡ false → ReportPromise b (NotGiven NothingOpen)
-not_given b o = when_shut (λ (p : Present). NotGiven NothingOpen ≡ reported p) b o (λ e. refl)
+pub not_given : (b : Bench) → open_on b ≡ false → ReportPromise b (Err NothingOpen)
+not_given b o = when_shut (λ (p : Present). Err NothingOpen ≡ reported p) b o (λ e. refl)
 
 -- what is counted and found on a bench is the report of what it stands for
 module _ (b : Bench) (counts : Tally) (depth ands : ℕ) (v : Verdict) where
-  abbrev made : Reported
-  made = Given (record { gates = b.g; counts = counts; depth = depth; and_depth = ands; verdict = v })
+  abbrev made : Result Report Refusal
+  made = Ok (record { gates = b.g; counts = counts; depth = depth; and_depth = ands; verdict = v })
 
   pub given : open_on b ≡ true → counts ≡ tally_of (take b.g b.kinds) → depth ≡ at_outputs b b.depths → ands ≡ at_outputs b b.and_depths
       → v ≡ judged b depth ands → ReportPromise b made
@@ -191,4 +193,4 @@ module _ (b : Bench) (counts : Tally) (depth ands : ℕ) (v : Verdict) where
       let d = hd ∙ ap (λ (x : Bench). at_outputs x x.depths) e ∙ at-outputs s ok.circuit (depths c.inputs (gate_at c) g) in
       let a = ha ∙ ap (λ (x : Bench). at_outputs x x.and_depths) e ∙ at-outputs s ok.circuit (and_depths c.inputs (gate_at c) g) in
       let w = hv ∙ (λ i. judged (e i) (d i) (a i)) ∙ judged_is s ok in
-      λ i. Given (record { gates = (e i).g; counts = k i; depth = d i; and_depth = a i; verdict = w i }))
+      λ i. Ok (record { gates = (e i).g; counts = k i; depth = d i; and_depth = a i; verdict = w i }))

@@ -9,45 +9,31 @@ ghost use Rattle.bench.specs.State.{least};
 ghost use Rattle.bench.specs.Calls.{ReportPromise};
 ghost use Rattle.report.specs.Judged.{differences, differs_in, judged};
 
-use bench::edits::is_standing;
-use bench::{Bench, Place, Report, Reported, Verdict};
+use bench::{Bench, Place, Report, Verdict};
 use circuit::depth::overall_of;
-use circuit::{NO_WORDS, Refusal, Words, gate, line_index, wide, wide16};
+use circuit::{NO_WORDS, Refusal, Words, gate, line_index};
 
 // Which inputs have a differing output, in words.
-fn differing(b: Bench) -> Words
-    requires { b.m ≤ most_outputs }
-    ensures { result ≡ differences b.values b.outputs b.wanted b.m }
+fn differing(b: &Bench) -> Words
+    requires { b.now.m ≤ most_outputs }
+    ensures { result ≡ differences b.now.values b.now.outputs b.now.wanted b.now.m }
 {
-    let m = b.m;
     let mut found = NO_WORDS;
-    let mut j: usize = 0;
-    while j < m {
+    for j in 0..b.m {
         let line = line_index(b.outputs[j]);
         found = gate::eval_gate(4, found, gate::eval_gate(0, b.values[line], b.wanted[j]));
-        j += 1;
     }
     found
 }
 
-// The lowest bit that is set in a word, or 64.
+// The lowest bit that is set in a word; or 64, as of `trailing_zeros`, so that one comparison tells.
 fn lowest_bit(word: u64) -> usize
     ensures { result ≡ least (λ i. eqb (bit i word) 1) 64 0 }
 {
-    if word == 0 {
-        return 64;
-    }
-    let mut i: usize = 0;
-    while i < 64 {
-        if (word >> i) % 2 == 1 {
-            return i;
-        }
-        i += 1;
-    }
-    64
+    word.trailing_zeros() as usize
 }
 
-// The smallest input value that is set in four words, or one past the last.
+// The smallest input value that is set in four words; or one past the last, which is past those of any circuit too.
 fn lowest_input(w: Words) -> usize
     ensures { result ≡ least (λ x. eqb (value_in w x) 1) most_values 0 }
 {
@@ -83,27 +69,24 @@ fn value_in(w: Words, x: usize) -> u64
     (w.w3 >> (x - 192)) % 2
 }
 
-// The smallest output that differs on input value x, or m.
-fn lowest_output(b: Bench, x: usize) -> usize
-    requires { (x < most_values) × (b.m ≤ most_outputs) }
-    ensures { result ≡ least (differs_in b.values b.outputs b.wanted x) b.m 0 }
+// The smallest output that differs on input value x; or m, though it is asked only where one does.
+fn lowest_output(b: &Bench, x: usize) -> usize
+    requires { (x < most_values) × (b.now.m ≤ most_outputs) }
+    ensures { result ≡ least (differs_in b.now.values b.now.outputs b.now.wanted x) b.now.m 0 }
 {
-    let m = b.m;
-    let mut j: usize = 0;
-    while j < m {
+    for j in 0..b.m {
         let line = line_index(b.outputs[j]);
         if value_in(b.values[line], x) != value_in(b.wanted[j], x) {
             return j;
         }
-        j += 1;
     }
-    m
+    b.m
 }
 
 // The first verdict that applies.
-fn judge(b: Bench, depth: u8, ands: u8) -> Verdict
-    requires { (b.n ≤ most_inputs) × (b.m ≤ most_outputs) }
-    ensures { result ≡ judged b depth ands }
+fn judge(b: &Bench, depth: u8, ands: u8) -> Verdict
+    requires { (b.now.n ≤ most_inputs) × (b.now.m ≤ most_outputs) }
+    ensures { result ≡ judged b.now depth ands }
 {
     let x = lowest_input(differing(b));
     let inputs = 1usize << b.n;
@@ -113,42 +96,34 @@ fn judge(b: Bench, depth: u8, ands: u8) -> Verdict
             output: lowest_output(b, x),
         });
     }
-    if wide16(b.max_gates) < b.g {
+    if usize::from(b.max_gates) < b.g {
         return Verdict::OverGates;
     }
-    if wide16(b.max_depth) < wide(depth) {
+    if b.max_depth < u16::from(depth) {
         return Verdict::OverDepth;
     }
-    if wide16(b.max_and_depth) < wide(ands) {
+    if b.max_and_depth < u16::from(ands) {
         return Verdict::OverAndDepth;
     }
     Verdict::Pass
 }
 
 // The report of what stands on the bench.
-pub fn report(bench: Bench) -> Reported
+pub fn report(bench: Bench) -> Result<Report, Refusal>
     ensures { ReportPromise bench result }
 {
-    let n = bench.n;
-    let m = bench.m;
-    let g = bench.g;
-    if is_standing(bench.is_open, n, m, g) {
-        let kinds = bench.kinds;
-        let depths = bench.depths;
-        let and_depths = bench.and_depths;
-        let outputs = bench.outputs;
-        let counts = gate::tally(&kinds[..g]);
-        let depth = overall_of(&depths, &outputs[..m]);
-        let and_depth = overall_of(&and_depths, &outputs[..m]);
-        let verdict = judge(bench, depth, and_depth);
-        Reported::Given(Report {
-            gates: g,
-            counts,
-            depth,
-            and_depth,
-            verdict,
-        })
-    } else {
-        Reported::NotGiven(Refusal::NothingOpen)
+    if !bench.is_standing() {
+        return Err(Refusal::NothingOpen);
     }
+    let counts = gate::tally(&bench.kinds[..bench.g]);
+    let depth = overall_of(&bench.depths, &bench.outputs[..bench.m]);
+    let and_depth = overall_of(&bench.and_depths, &bench.outputs[..bench.m]);
+    let verdict = judge(&bench, depth, and_depth);
+    Ok(Report {
+        gates: bench.g,
+        counts,
+        depth,
+        and_depth,
+        verdict,
+    })
 }

@@ -2,4 +2,4 @@
 pub mod Order
 pub mod Reading
 pub mod Placed
-pub mod Cursors
+pub mod Taking

@@ -1,7 +1,5 @@
 -- The call language: what a line asks. A reader of a word goes on with what the word says and with the rest of the line.
-use Rattle.std.specs.Prelude.{Bool, true, false, cond, List, [], ◌∷◌, ℕ, ◌%◌, eqb, leb, ltb, length, get_or}
-use Rattle.text.specs.declared.Number.{Number}
-use Rattle.text.specs.declared.Number.TheVariants.{Value, Not}
+use Rattle.std.specs.Prelude.{Bool, true, false, cond, List, [], ◌∷◌, ℕ, ◌%◌, eqb, leb, ltb, length, get_or, Option, Some, None}
 use Rattle.text.specs.Places.{head_word, tail_words, same_list}
 use Rattle.text.specs.Numbers.{number_in, all_hex, hex_bytes}
 use Rattle.script.specs.Order.{Order, silent, unreadable, ask_new, ask_open_matrix, ask_open_table, ask_report, ask_gate, ask_output, ask_entry, ask_limits, ask_sweep, ask_append, ask_store, ask_held, ask_show, ask_hint, ask_build, ask_late, ask_distance, ask_equations}
@@ -11,9 +9,9 @@ abbrev pub Rest : Type 0
 Rest = List ℕ → Order
 
 -- on with a number's value; unreadable where there is none
-abbrev pub on_value : Number → (ℕ → Order) → Order
-on_value (Value v) f = f v
-on_value Not f = unreadable
+abbrev pub on_value : Option ℕ → (ℕ → Order) → Order
+on_value (Some v) f = f v
+on_value None f = unreadable
 
 -- a number, 0 to 2^64 - 1
 unfoldable pub number : (ℕ → Rest) → Rest

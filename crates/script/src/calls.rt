@@ -1,231 +1,161 @@
 // A function for each call, over the words after the first.
-ghost use Rattle.std.specs.Prelude.{◌≡◌, Bool};
-ghost use Rattle.script.specs.Order.{order_of};
-ghost use Rattle.script.specs.Reading.{open_rest, gate_rest, output_rest, entry_rest, limits_rest, append_rest, hint_rest, store_rest, build_rest, late_rest, distance_rest, equations_rest, no_more};
-ghost use Rattle.script.specs.Placed.{Placed, Follows, Means};
-ghost use Rattle.script.specs.Cursors.{onward, Within, Second};
+ghost use Rattle.script.specs.Reading.{open_rest, gate_rest, output_rest, entry_rest, limits_rest, append_rest, hint_rest, store_rest, build_rest, late_rest, distance_rest, equations_rest};
+ghost use Rattle.script.specs.Taking.{Second, Reads};
 
-use crate::words::{Cursor, hex_at, is_done, kind_at, limit_at, number_at, number_or_zero};
+use crate::words::Words;
 use crate::{
     AppendEdit, BuildCall, Call, DistanceCall, EntryEdit, EquationsCall, GateEdit, HintCall,
     LateCall, LimitsEdit, Opening, OutputEdit,
 };
 
-// The call whose words were all read, unless a word is left.
-pub(crate) fn finish(line: &[u8], here: Cursor, call: Call) -> Call
-    requires { Within line.now here × Placed line.now call × (here.readable ≡ Bool.true → Follows line.now call) }
-    ensures { Means line.now result (onward line.now here (no_more (order_of line.now call))) }
-{
-    if is_done(line, here) {
-        return call;
-    }
-    Call::Unreadable
-}
-
 // `open HEX matrix HEX G D A` or `open HEX table HEX G D A`.
-pub(crate) fn read_open(line: &[u8], here: Cursor) -> Call
-    requires { Second line.now here }
-    ensures { Means line.now result (onward line.now here open_rest) }
+pub(crate) fn read_open(mut words: Words) -> Option<Call>
+    requires { Second words }
+    ensures { Reads words.entry open_rest result }
 {
-    let stored = hex_at(line, here);
-    let kind = kind_at(line, stored.rest);
-    let aim = hex_at(line, kind.rest);
-    let gates = limit_at(line, aim.rest);
-    let depth = limit_at(line, gates.rest);
-    let ands = limit_at(line, depth.rest);
-    let bytes = stored.part;
-    let target = aim.part;
+    let bytes = words.hex()?;
+    let is_matrix = words.is_matrix()?;
+    let target = words.hex()?;
+    let gates = words.limit()?;
+    let depth = words.limit()?;
+    let ands = words.limit()?;
     let opening = Opening {
         bytes,
         target,
-        gates: gates.value,
-        depth: depth.value,
-        ands: ands.value,
+        gates,
+        depth,
+        ands,
     };
-    if kind.is_matrix {
-        return finish(line, ands.rest, Call::OpenMatrix(opening));
-    }
-    finish(line, ands.rest, Call::OpenTable(opening))
+    words.finish(if is_matrix {
+        Call::OpenMatrix(opening)
+    } else {
+        Call::OpenTable(opening)
+    })
 }
 
 // `gate K KIND A B`.
-pub(crate) fn read_gate(line: &[u8], here: Cursor) -> Call
-    requires { Second line.now here }
-    ensures { Means line.now result (onward line.now here gate_rest) }
+pub(crate) fn read_gate(mut words: Words) -> Option<Call>
+    ensures { Reads words.entry gate_rest result }
 {
-    let k = number_at(line, here);
-    let kind = number_at(line, k.rest);
-    let a = number_at(line, kind.rest);
-    let b = number_at(line, a.rest);
-    let edit = GateEdit {
-        k: k.value,
-        kind: kind.value,
-        a: a.value,
-        b: b.value,
-    };
-    finish(line, b.rest, Call::Gate(edit))
+    let k = words.number()?;
+    let kind = words.number()?;
+    let a = words.number()?;
+    let b = words.number()?;
+    words.finish(Call::Gate(GateEdit { k, kind, a, b }))
 }
 
 // `output J LINE`.
-pub(crate) fn read_output(line: &[u8], here: Cursor) -> Call
-    requires { Second line.now here }
-    ensures { Means line.now result (onward line.now here output_rest) }
+pub(crate) fn read_output(mut words: Words) -> Option<Call>
+    ensures { Reads words.entry output_rest result }
 {
-    let j = number_at(line, here);
-    let to = number_at(line, j.rest);
-    let edit = OutputEdit {
-        j: j.value,
-        line: to.value,
-    };
-    finish(line, to.rest, Call::Output(edit))
+    let j = words.number()?;
+    let line = words.number()?;
+    words.finish(Call::Output(OutputEdit { j, line }))
 }
 
 // `entry I VALUE` or `entry I VALUE CONSTANT`.
-pub(crate) fn read_entry(line: &[u8], here: Cursor) -> Call
-    requires { Second line.now here }
-    ensures { Means line.now result (onward line.now here entry_rest) }
+pub(crate) fn read_entry(mut words: Words) -> Option<Call>
+    ensures { Reads words.entry entry_rest result }
 {
-    let i = number_at(line, here);
-    let to = number_at(line, i.rest);
-    let constant = number_or_zero(line, to.rest);
-    let edit = EntryEdit {
-        i: i.value,
-        value: to.value,
-        constant: constant.value,
-    };
-    finish(line, constant.rest, Call::Entry(edit))
+    let i = words.number()?;
+    let value = words.number()?;
+    let constant = words.number_or_zero()?;
+    words.finish(Call::Entry(EntryEdit { i, value, constant }))
 }
 
 // `limits G D A`.
-pub(crate) fn read_limits(line: &[u8], here: Cursor) -> Call
-    requires { Second line.now here }
-    ensures { Means line.now result (onward line.now here limits_rest) }
+pub(crate) fn read_limits(mut words: Words) -> Option<Call>
+    ensures { Reads words.entry limits_rest result }
 {
-    let gates = limit_at(line, here);
-    let depth = limit_at(line, gates.rest);
-    let ands = limit_at(line, depth.rest);
-    let edit = LimitsEdit {
-        gates: gates.value,
-        depth: depth.value,
-        ands: ands.value,
-    };
-    finish(line, ands.rest, Call::Limits(edit))
+    let gates = words.limit()?;
+    let depth = words.limit()?;
+    let ands = words.limit()?;
+    words.finish(Call::Limits(LimitsEdit { gates, depth, ands }))
 }
 
 // `append KIND A B`.
-pub(crate) fn read_append(line: &[u8], here: Cursor) -> Call
-    requires { Second line.now here }
-    ensures { Means line.now result (onward line.now here append_rest) }
+pub(crate) fn read_append(mut words: Words) -> Option<Call>
+    ensures { Reads words.entry append_rest result }
 {
-    let kind = number_at(line, here);
-    let first = number_at(line, kind.rest);
-    let second = number_at(line, first.rest);
-    let edit = AppendEdit {
-        kind: kind.value,
-        a: first.value,
-        b: second.value,
-    };
-    finish(line, second.rest, Call::Append(edit))
+    let kind = words.number()?;
+    let a = words.number()?;
+    let b = words.number()?;
+    words.finish(Call::Append(AppendEdit { kind, a, b }))
 }
 
 // `hint J D`.
-pub(crate) fn read_hint(line: &[u8], here: Cursor) -> Call
-    requires { Second line.now here }
-    ensures { Means line.now result (onward line.now here hint_rest) }
+pub(crate) fn read_hint(mut words: Words) -> Option<Call>
+    ensures { Reads words.entry hint_rest result }
 {
-    let row = number_at(line, here);
-    let d = number_at(line, row.rest);
-    let call = HintCall {
-        row: row.value,
-        d: d.value,
-    };
-    finish(line, d.rest, Call::Hint(call))
+    let row = words.number()?;
+    let d = words.number()?;
+    words.finish(Call::Hint(HintCall { row, d }))
 }
 
 // `store ROOM`.
-pub(crate) fn read_store(line: &[u8], here: Cursor) -> Call
-    requires { Second line.now here }
-    ensures { Means line.now result (onward line.now here store_rest) }
+pub(crate) fn read_store(mut words: Words) -> Option<Call>
+    ensures { Reads words.entry store_rest result }
 {
-    let room = number_at(line, here);
-    finish(line, room.rest, Call::Store(room.value))
+    let room = words.number()?;
+    words.finish(Call::Store(room))
 }
 
 // `build N ROWSHEX D ROOM`.
-pub(crate) fn read_build(line: &[u8], here: Cursor) -> Call
-    requires { Second line.now here }
-    ensures { Means line.now result (onward line.now here build_rest) }
+pub(crate) fn read_build(mut words: Words) -> Option<Call>
+    requires { Second words }
+    ensures { Reads words.entry build_rest result }
 {
-    let n = number_at(line, here);
-    let masks = hex_at(line, n.rest);
-    let d = number_at(line, masks.rest);
-    let room = number_at(line, d.rest);
-    let rows = masks.part;
-    let call = BuildCall {
-        n: n.value,
-        rows,
-        d: d.value,
-        room: room.value,
-    };
-    finish(line, room.rest, Call::Build(call))
+    let n = words.number()?;
+    let rows = words.hex()?;
+    let d = words.number()?;
+    let room = words.number()?;
+    words.finish(Call::Build(BuildCall { n, rows, d, room }))
 }
 
 // `late N ARRIVALSHEX ROWSHEX LIMITSHEX ROOM`.
-pub(crate) fn read_late(line: &[u8], here: Cursor) -> Call
-    requires { Second line.now here }
-    ensures { Means line.now result (onward line.now here late_rest) }
+pub(crate) fn read_late(mut words: Words) -> Option<Call>
+    requires { Second words }
+    ensures { Reads words.entry late_rest result }
 {
-    let n = number_at(line, here);
-    let late = hex_at(line, n.rest);
-    let masks = hex_at(line, late.rest);
-    let deep = hex_at(line, masks.rest);
-    let room = number_at(line, deep.rest);
-    let arrivals = late.part;
-    let rows = masks.part;
-    let limits = deep.part;
-    let call = LateCall {
-        n: n.value,
+    let n = words.number()?;
+    let arrivals = words.hex()?;
+    let rows = words.hex()?;
+    let limits = words.hex()?;
+    let room = words.number()?;
+    words.finish(Call::Late(LateCall {
+        n,
         arrivals,
         rows,
         limits,
-        room: room.value,
-    };
-    finish(line, room.rest, Call::Late(call))
+        room,
+    }))
 }
 
 // `distance N MASKSHEX DEPTHSHEX T D`.
-pub(crate) fn read_distance(line: &[u8], here: Cursor) -> Call
-    requires { Second line.now here }
-    ensures { Means line.now result (onward line.now here distance_rest) }
+pub(crate) fn read_distance(mut words: Words) -> Option<Call>
+    requires { Second words }
+    ensures { Reads words.entry distance_rest result }
 {
-    let n = number_at(line, here);
-    let base = hex_at(line, n.rest);
-    let deep = hex_at(line, base.rest);
-    let target = number_at(line, deep.rest);
-    let d = number_at(line, target.rest);
-    let masks = base.part;
-    let depths = deep.part;
-    let call = DistanceCall {
-        n: n.value,
+    let n = words.number()?;
+    let masks = words.hex()?;
+    let depths = words.hex()?;
+    let target = words.number()?;
+    let d = words.number()?;
+    words.finish(Call::Distance(DistanceCall {
+        n,
         masks,
         depths,
-        target: target.value,
-        d: d.value,
-    };
-    finish(line, d.rest, Call::Distance(call))
+        target,
+        d,
+    }))
 }
 
 // `equations HEX ROOM`.
-pub(crate) fn read_equations(line: &[u8], here: Cursor) -> Call
-    requires { Second line.now here }
-    ensures { Means line.now result (onward line.now here equations_rest) }
+pub(crate) fn read_equations(mut words: Words) -> Option<Call>
+    requires { Second words }
+    ensures { Reads words.entry equations_rest result }
 {
-    let bytes = hex_at(line, here);
-    let room = number_at(line, bytes.rest);
-    let file = bytes.part;
-    let call = EquationsCall {
-        file,
-        room: room.value,
-    };
-    finish(line, room.rest, Call::Equations(call))
+    let file = words.hex()?;
+    let room = words.number()?;
+    words.finish(Call::Equations(EquationsCall { file, room }))
 }

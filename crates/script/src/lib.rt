@@ -3,9 +3,9 @@
 
 ghost use Rattle.script.specs.Reading.{by_word, calls, edit_calls, bytes_calls, order_in};
 ghost use Rattle.script.specs.Placed.{Means};
-ghost use Rattle.script.specs.Cursors.{onward, Second};
+ghost use Rattle.script.specs.Taking.{Second, Reads};
 
-use crate::words::Cursor;
+use crate::words::Words;
 
 mod words; // words.rt: one word of a line, as a number, a limit, bytes or the kind of a target
 mod calls; // calls.rt: a function for each call, over the words after the first
@@ -138,79 +138,72 @@ pub enum Call {
 // A line of more bytes than this is unreadable.
 pub const LONGEST: usize = 65535;
 
-// A call that brings or takes bytes.
-fn bytes_call(word: &[u8], line: &[u8], rest: Cursor) -> Call
-    requires { Second line.now rest }
-    ensures { Means line.now result (onward line.now rest (by_word bytes_calls word.now)) }
+// By its first word, a call that brings or takes bytes. (Tried: a `match` on byte strings leaves a goal for each byte at which two words part, 36
+// for these six words, and the search leaves sixteen of them open.)
+#[tactic(auto, unfolding(crate::specs::Reading::by_word))]
+fn bytes_call(word: &[u8], words: Words) -> Option<Call>
+    requires { Second words }
+    ensures { Reads words.entry (by_word bytes_calls word.now) result }
 {
     if text::same(word, b"open") {
-        return calls::read_open(line, rest);
+        calls::read_open(words)
+    } else if text::same(word, b"store") {
+        calls::read_store(words)
+    } else if text::same(word, b"build") {
+        calls::read_build(words)
+    } else if text::same(word, b"late") {
+        calls::read_late(words)
+    } else if text::same(word, b"distance") {
+        calls::read_distance(words)
+    } else if text::same(word, b"equations") {
+        calls::read_equations(words)
+    } else {
+        None
     }
-    if text::same(word, b"store") {
-        return calls::read_store(line, rest);
-    }
-    if text::same(word, b"build") {
-        return calls::read_build(line, rest);
-    }
-    if text::same(word, b"late") {
-        return calls::read_late(line, rest);
-    }
-    if text::same(word, b"distance") {
-        return calls::read_distance(line, rest);
-    }
-    if text::same(word, b"equations") {
-        return calls::read_equations(line, rest);
-    }
-    Call::Unreadable
 }
 
 // An edit, or a call that brings or takes bytes.
-fn edit_call(word: &[u8], line: &[u8], rest: Cursor) -> Call
-    requires { Second line.now rest }
-    ensures { Means line.now result (onward line.now rest (by_word edit_calls word.now)) }
+#[tactic(auto, unfolding(crate::specs::Reading::by_word))]
+fn edit_call(word: &[u8], words: Words) -> Option<Call>
+    requires { Second words }
+    ensures { Reads words.entry (by_word edit_calls word.now) result }
 {
     if text::same(word, b"gate") {
-        return calls::read_gate(line, rest);
+        calls::read_gate(words)
+    } else if text::same(word, b"output") {
+        calls::read_output(words)
+    } else if text::same(word, b"entry") {
+        calls::read_entry(words)
+    } else if text::same(word, b"limits") {
+        calls::read_limits(words)
+    } else if text::same(word, b"append") {
+        calls::read_append(words)
+    } else {
+        bytes_call(word, words)
     }
-    if text::same(word, b"output") {
-        return calls::read_output(line, rest);
-    }
-    if text::same(word, b"entry") {
-        return calls::read_entry(line, rest);
-    }
-    if text::same(word, b"limits") {
-        return calls::read_limits(line, rest);
-    }
-    if text::same(word, b"append") {
-        return calls::read_append(line, rest);
-    }
-    bytes_call(word, line, rest)
 }
 
 // Any call, by its first word.
-fn any_call(word: &[u8], line: &[u8], rest: Cursor) -> Call
-    requires { Second line.now rest }
-    ensures { Means line.now result (onward line.now rest (by_word calls word.now)) }
+#[tactic(auto, unfolding(crate::specs::Reading::by_word))]
+fn any_call(word: &[u8], words: Words) -> Option<Call>
+    requires { Second words }
+    ensures { Reads words.entry (by_word calls word.now) result }
 {
     if text::same(word, b"new") {
-        return calls::finish(line, rest, Call::New);
+        words.finish(Call::New)
+    } else if text::same(word, b"report") {
+        words.finish(Call::Report)
+    } else if text::same(word, b"held") {
+        words.finish(Call::Held)
+    } else if text::same(word, b"show") {
+        words.finish(Call::Show)
+    } else if text::same(word, b"sweep") {
+        words.finish(Call::Sweep)
+    } else if text::same(word, b"hint") {
+        calls::read_hint(words)
+    } else {
+        edit_call(word, words)
     }
-    if text::same(word, b"report") {
-        return calls::finish(line, rest, Call::Report);
-    }
-    if text::same(word, b"held") {
-        return calls::finish(line, rest, Call::Held);
-    }
-    if text::same(word, b"show") {
-        return calls::finish(line, rest, Call::Show);
-    }
-    if text::same(word, b"sweep") {
-        return calls::finish(line, rest, Call::Sweep);
-    }
-    if text::same(word, b"hint") {
-        return calls::read_hint(line, rest);
-    }
-    edit_call(word, line, rest)
 }
 
 // The call that a line is. The line is given without its LF, and without the CR before it.
@@ -220,18 +213,12 @@ pub fn call_in(line: &[u8]) -> Call
     if LONGEST < line.len() {
         return Call::Unreadable;
     }
-    let first = text::next_word(line, 0);
-    let from = first.from;
-    let to = first.to;
-    if to <= from {
+    let Some(first) = text::next_word(line, 0) else {
         return Call::Silent;
-    }
+    };
     if line[0] == b'#' {
         return Call::Silent;
     }
-    let rest = Cursor {
-        readable: true,
-        at: to,
-    };
-    any_call(&line[from..to], line, rest)
+    let words = Words::after(line, first.to);
+    any_call(&line[first.from..first.to], words).unwrap_or(Call::Unreadable)
 }

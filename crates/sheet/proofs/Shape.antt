@@ -1,7 +1,8 @@
 -- What an assignment that was read is.
-use mathlib.Core.Path.{◌≡◌, refl}
+use mathlib.Core.Path.{◌≡◌, refl, ap}
 use mathlib.Core.Bool.{Bool, true, false, cond}
 use mathlib.Core.List.{List}
+use Rattle.std.specs.Prelude.{Option, Some, None, Ok}
 use Prim.Native.Nat.{ℕ, ◌+◌, ◌-◌, ◌≤◌, ◌<◌}
 use native.Mathlib.Omega.{arith}
 use borrow.Author.Tests.{leb-false, ltb-false}
@@ -9,65 +10,62 @@ use lib.Dec.{leb, ltb}
 use Rattle.formula.specs.Sizes.{most_names, longest, nesting}
 use Rattle.formula.specs.Text.{seen, in_class, word_end}
 use Rattle.formula.specs.Tree.{Tree, Res, got, bad, unk}
-use Rattle.formula.specs.Emit.{emitted, gates_of, line_of}
+use Rattle.formula.specs.Emit.{read_at, failed, emitted, gates_of, line_of}
 use Rattle.formula.specs.Names.{look_up}
 use Rattle.formula.specs.Levels.{or_of}
 use Rattle.formula.specs.declared.Class.TheVariants.{Blank}
 use Rattle.formula.specs.declared.Gates.{Gates}
-use Rattle.formula.specs.declared.Found.{Found}
-use Rattle.formula.specs.declared.Found.TheVariants.{Line, Nothing}
+use Rattle.formula.specs.declared.Why.TheVariants.{Text}
 use Rattle.formula.proofs.Laws.{past-ge}
-use Rattle.formula.proofs.Reading.{Past, name_past, or-past}
+use Rattle.formula.proofs.Reading.{place_in, Past, name_past, or-past}
 use Rattle.grammar.specs.File.{line_ends, sign_after}
 use Rattle.sheet.specs.declared.Book.{Book}
-use Rattle.sheet.specs.declared.Why.TheVariants.{Text}
-use Rattle.sheet.specs.declared.Step.TheVariants.{On}
-use Rattle.sheet.specs.Sheet.{names_in, stopped, line_ended, targeted, assigning, assign_at}
+use Rattle.sheet.specs.Sheet.{names_in, line_ended, targeted, assigning, assign_at}
 
 -- the assignment at p, which goes on at z: a name that is not known yet, =, and a formula
 pub record Made (s : List ℕ) (p z : ℕ) (b : Book) : Type 0 where
   pub tree : Tree
-  pub room : b.n < most_names
+  pub room : b.names.n < most_names
   pub some : p < word_end s p
   pub short : word_end s p - p ≤ longest
-  pub new : look_up s b.low b.high b.lines b.n p (word_end s p) ≡ Nothing
+  pub new : look_up s b.names.low b.names.high b.names.lines b.names.n p (word_end s p) ≡ None
   pub sign : seen s (sign_after s p) 61 ≡ true
   pub read : or_of s (names_in s b) nesting (sign_after s p + 1) ≡ got z tree
   pub ended : line_ends s z ≡ true
-  pub is : assign_at s p b ≡ record { gates = gates_of tree b.gates; line = line_of tree b.gates; step = On z }
+  pub is : assign_at s p b ≡ read_at (gates_of tree b.gates) (Ok (z, line_of tree b.gates))
 
 -- a line that was read to its end
 record Ended (s : List ℕ) (z : ℕ) (g : Gates) (r : Res) : Type 0 where
   tree : Tree
   read : r ≡ got z tree
   line : line_ends s z ≡ true
-  is : line_ended s (emitted g r) ≡ record { gates = gates_of tree g; line = line_of tree g; step = On z }
+  is : line_ended s (emitted g r) ≡ read_at (gates_of tree g) (Ok (z, line_of tree g))
 
-ended : (s : List ℕ) (z : ℕ) (g : Gates) (r : Res) → (line_ended s (emitted g r)).step ≡ On z → Ended s z g r
+ended : (s : List ℕ) (z v : ℕ) (g : Gates) (r : Res) → (line_ended s (emitted g r)).out ≡ Ok (z, v) → Ended s z g r
 unfolding line_ended
-ended s z g (bad q) e = let n : ◌≡◌ {A = ℕ} 0 1 = cc in absurd (omega arith)
-ended s z g (unk q) e = let n : ◌≡◌ {A = ℕ} 0 1 = cc in absurd (omega arith)
-ended s z g (got q t) e = by (line_ends s q) refl e
+ended s z v g (bad q) e = let n : ◌≡◌ {A = ℕ} 0 1 = cc in absurd (omega arith)
+ended s z v g (unk q) e = let n : ◌≡◌ {A = ℕ} 0 1 = cc in absurd (omega arith)
+ended s z v g (got q t) e = by (line_ends s q) refl e
   where
-    by : (w : Bool) → line_ends s q ≡ w → (cond w (record { gates = gates_of t g; line = line_of t g; step = On q }) (stopped (Text q))).step ≡ On z → Ended s z g (got q t)
-    by true ew e = let k : q ≡ z = cc in record { tree = t; read = rw k; line = rw (← k) ew; is = rw (ew, k) }
+    by : (w : Bool) → line_ends s q ≡ w → (cond w (read_at (gates_of t g) (Ok (q, line_of t g))) (failed (Text q))).out ≡ Ok (z, v) → Ended s z g (got q t)
+    by true ew e = let k : q ≡ z = ap place_in e in record { tree = t; read = rw k; line = rw (← k) ew; is = rw (ew, k) }
     by false ew e = let n : ◌≡◌ {A = ℕ} 0 1 = cc in absurd (omega arith)
 
-pub made : (s : List ℕ) (p z : ℕ) (b : Book) → (assign_at s p b).step ≡ On z → Made s p z b
+pub made : (s : List ℕ) (p z v : ℕ) (b : Book) → (assign_at s p b).out ≡ Ok (z, v) → Made s p z b
 unfolding assigning
-made s p z b e =
-    by (leb most_names b.n) refl (leb (word_end s p) p) refl (ltb longest (word_end s p - p)) refl (look_up s b.low b.high b.lines b.n p (word_end s p)) refl (seen s (sign_after s p) 61) refl e
+made s p z v b e =
+    by (leb most_names b.names.n) refl (leb (word_end s p) p) refl (ltb longest (word_end s p - p)) refl (look_up s b.names.low b.names.high b.names.lines b.names.n p (word_end s p)) refl (seen s (sign_after s p) 61) refl e
   where
-    by : (t : Bool) → leb most_names b.n ≡ t → (u : Bool) → leb (word_end s p) p ≡ u → (v : Bool) → ltb longest (word_end s p - p) ≡ v
-        → (f : Found) → look_up s b.low b.high b.lines b.n p (word_end s p) ≡ f → (w : Bool) → seen s (sign_after s p) 61 ≡ w
-        → (cond t (stopped (Text p)) (cond u (stopped (Text p)) (cond v (stopped (Text (p + longest))) (targeted s (names_in s b) p b.gates f)))).step ≡ On z → Made s p z b
+    by : (t : Bool) → leb most_names b.names.n ≡ t → (u : Bool) → leb (word_end s p) p ≡ u → (l : Bool) → ltb longest (word_end s p - p) ≡ l
+        → (f : Option ℕ) → look_up s b.names.low b.names.high b.names.lines b.names.n p (word_end s p) ≡ f → (w : Bool) → seen s (sign_after s p) 61 ≡ w
+        → (cond t (failed (Text p)) (cond u (failed (Text p)) (cond l (failed (Text (p + longest))) (targeted s (names_in s b) p b.gates f)))).out ≡ Ok (z, v) → Made s p z b
     by true et u eu v ev f ef w ew h = let n : ◌≡◌ {A = ℕ} 0 1 = cc in absurd (omega arith)
     by false et true eu v ev f ef w ew h = let n : ◌≡◌ {A = ℕ} 0 1 = cc in absurd (omega arith)
     by false et false eu true ev f ef w ew h = let n : ◌≡◌ {A = ℕ} 0 1 = cc in absurd (omega arith)
-    by false et false eu false ev (Line x) ef w ew h = let n : ◌≡◌ {A = ℕ} 0 1 = cc in absurd (omega arith)
-    by false et false eu false ev Nothing ef false ew h = let k = rw ew at h in let n : ◌≡◌ {A = ℕ} 0 1 = cc in absurd (omega arith)
-    by false et false eu false ev Nothing ef true ew h =
-        let x = ended s z b.gates (or_of s (names_in s b) nesting (sign_after s p + 1)) (rw ew at h) in
+    by false et false eu false ev (Some x) ef w ew h = let n : ◌≡◌ {A = ℕ} 0 1 = cc in absurd (omega arith)
+    by false et false eu false ev None ef false ew h = let k = rw ew at h in let n : ◌≡◌ {A = ℕ} 0 1 = cc in absurd (omega arith)
+    by false et false eu false ev None ef true ew h =
+        let x = ended s z v b.gates (or_of s (names_in s b) nesting (sign_after s p + 1)) (rw ew at h) in
         record {
           tree = x.tree;
           room = leb-false _ _ et;

@@ -1,14 +1,18 @@
 -- What an acceptance shows, and what the answer is past each test. Assumes nothing.
+use Rattle.std.specs.Prelude.{Err}
+use Rattle.circuit.specs.Rules.{done}
 use mathlib.Core.Path.{◌≡◌, refl, ap, ap₂, ◌∙◌, sym}
 use mathlib.Core.Bool.{Bool, true, false, ◌&&◌}
-use mathlib.Core.List.{List, ◌∷◌, ◌++◌, map}
+use mathlib.Core.List.{List, [], ◌∷◌, ◌++◌, map}
 use Prim.Native.Nat.{ℕ, zero, suc, ◌≤◌, ◌<◌, ◌-◌, ◌+◌, ◌*◌}
-use borrow.Author.Tests.{eqb-true, eq-eqb, ne_eqb, le-leb, lt-leb}
+use native.Mathlib.Omega.{arith}
+use Rattle.std.specs.List.{starts_with}
+use Rattle.std.proofs.Math.Bool.{and-true}
+use borrow.Author.Tests.{eqb-true, eqb-false, eq-eqb, ne_eqb, le-leb, lt-leb}
 use lib.Dec.{leb, eqb}
 use lib.ListN.{length, get_or, drop, set, replicate, length-map}
 use Rattle.circuit.specs.declared.Circuit.{Circuit}
 use Rattle.circuit.specs.declared.Refusal.TheVariants.{Shape, Length, Mark}
-use Rattle.circuit.specs.declared.Answer.TheVariants.{Done, Refused}
 use Rattle.circuit.specs.Sizes.{most_outputs, most_gates}
 use Rattle.circuit.specs.Lines.{Gate}
 use Rattle.circuit.specs.Structs.{column, held}
@@ -19,12 +23,12 @@ use Rattle.stored.specs.Reading.{answers, gate_here, out_here, body_answer, read
 use Rattle.stored.proofs.Records.{byte_at, records_length, records_put, records_none}
 
 module _ (only : Bool) (s : List ℕ) (n m g : ℕ) where
-  pub no_shape : shaped n m g ≡ false → Refused Shape ≡ body_answer only s n m g
+  pub no_shape : shaped n m g ≡ false → Err Shape ≡ body_answer only s n m g
   unfolding body_answer
   no_shape e = simp e
 
   module _ (e : shaped n m g ≡ true) where
-    pub no_length : (length s ≡ 5 + 5 * g + 3 * m → ⊥) → Refused Length ≡ body_answer only s n m g
+    pub no_length : (length s ≡ 5 + 5 * g + 3 * m → ⊥) → Err Length ≡ body_answer only s n m g
     unfolding body_answer
     no_length h = simp (e, ne_eqb (length s) (5 + 5 * g + 3 * m) h)
 
@@ -33,13 +37,25 @@ module _ (only : Bool) (s : List ℕ) (n m g : ℕ) where
     unfolding body_answer
     body_is h = simp (e, eq-eqb (length s) (5 + 5 * g + 3 * m) h)
 
+eqb_comm : (a b : ℕ) → eqb a b ≡ eqb b a
+eqb_comm a b = by (eqb a b) refl where
+  by : (t : Bool) → eqb a b ≡ t → eqb a b ≡ eqb b a
+  by true e = e ∙ sym (eq-eqb b a (sym (eqb-true a b e)))
+  by false e = e ∙ sym (ne_eqb b a (λ z. eqb-false a b e (sym z)))
+
+-- two bytes are a mark
+pub mark_is : (s : List ℕ) (p q : ℕ) {r t : Bool} → 2 ≤ length s → r ≡ starts_with eqb s (p ∷ q ∷ []) → r ≡ t → (eqb (get_or s 0 0) p && eqb (get_or s 1 0) q) ≡ t
+mark_is [] p q h e z = absurd (omega arith)
+mark_is (x ∷ []) p q h e z = absurd (omega arith)
+mark_is (x ∷ y ∷ s) p q h e z = (λ i. eqb_comm x p i && eqb_comm y q i) ∙ ap (λ (b : Bool). eqb p x && b) (sym (and-true (eqb q y))) ∙ sym e ∙ z
+
 -- the header
 module _ (only : Bool) (s : List ℕ) where
-  pub too_short : length s < 5 → Refused Length ≡ reading_answer only s
+  pub too_short : length s < 5 → Err Length ≡ reading_answer only s
   unfolding reading_answer
   too_short h = simp (lt-leb 5 (length s) h)
 
-  pub no_mark : 5 ≤ length s → eqb (get_or s 0 0) 83 && eqb (get_or s 1 0) 72 ≡ false → Refused Mark ≡ reading_answer only s
+  pub no_mark : 5 ≤ length s → eqb (get_or s 0 0) 83 && eqb (get_or s 1 0) 72 ≡ false → Err Mark ≡ reading_answer only s
   unfolding reading_answer
   no_mark h e = simp (le-leb 5 (length s) h, e)
 
@@ -54,10 +70,10 @@ pub record Accepted (only : Bool) (s : List ℕ) (n m g : ℕ) : Type 0 where
   pub second : get_or s 1 0 ≡ 72
   pub shape : Shaped n m g
   pub long : length s ≡ 5 + 5 * g + 3 * m
-  pub gates : answers (gate_here only) 5 n g (drop 5 s) ≡ Done
-  pub outs : answers (out_here (n + g)) 3 0 m (drop (5 + 5 * g) s) ≡ Done
+  pub gates : answers (gate_here only) 5 n g (drop 5 s) ≡ done
+  pub outs : answers (out_here (n + g)) 3 0 m (drop (5 + 5 * g) s) ≡ done
 
-pub accepted : (only : Bool) (s : List ℕ) → reading_answer only s ≡ Done → Accepted only s (get_or s 2 0) (get_or s 3 0) (get_or s 4 0)
+pub accepted : (only : Bool) (s : List ℕ) → reading_answer only s ≡ done → Accepted only s (get_or s 2 0) (get_or s 3 0) (get_or s 4 0)
 unfolding reading_answer body_answer
 accepted only s h =
     let n = get_or s 2 0 in
@@ -78,7 +94,7 @@ accepted only s h =
       outs = e.1;
     }
 
-pub whole : (only : Bool) (s : List ℕ) → reading_answer only s ≡ Done → Whole s
+pub whole : (only : Bool) (s : List ℕ) → reading_answer only s ≡ done → Whole s
 whole only s h = let a = accepted only s h in record { m_most = a.shape.m_most; g_most = a.shape.g_most; long = a.long }
 
 -- the arrays of the circuit that some bytes hold, column by column

@@ -4,8 +4,9 @@ use mathlib.Core.List.{List, [], ◌∷◌, ◌++◌, append_assoc, append-nil}
 use Prim.Native.Nat.{ℕ, zero, suc, ◌≤◌, ◌+◌, ◌*◌}
 use native.Mathlib.Nat.{add-zero, mul-suc}
 use native.Mathlib.Omega.{arith}
-use lib.ListN.{length, take, drop, set, length-append, length-drop, take-append-drop}
-use lib.Seq.{sets-eq, take_at, drop-append-add, drop-drop, length-take-le}
+use lib.ListN.{length, take, drop, length-append, length-drop, take-append-drop}
+use lib.Seq.{take_at, drop-append-add, drop-drop, length-take-le}
+use borrow.Rule.Slice.PartMut.{put_mid}
 use Rattle.circuit.specs.Lines.{Gate, upto}
 use Rattle.circuit.proofs.Upto.{upto-suc}
 use Rattle.stored.specs.Stored.{in_byte, gate_bytes, out_bytes}
@@ -43,21 +44,9 @@ pub over_next : (R room : List ℕ) (from at : ℕ) (xs ys : List ℕ) → room 
 over_next R room from at xs ys p q h =
     (λ i. over (p i) (q i) ys) ∙ over-over R from xs ys (omega arith)
 
-pub five_over : (R : List ℕ) (at p q x y z : ℕ) → at + 5 ≤ length R
-    → set (set (set (set (set R at p) (at + 1) q) (at + 2) x) (at + 3) y) (at + 4) z ≡ over R at (p ∷ q ∷ x ∷ y ∷ z ∷ [])
-five_over R at p q x y z h =
-    let a : at + 1 ≡ suc at = omega arith in
-    let b : at + 2 ≡ suc (suc at) = omega arith in
-    let c : at + 3 ≡ suc (suc (suc at)) = omega arith in
-    let d : at + 4 ≡ suc (suc (suc (suc at))) = omega arith in
-    (λ i. set (set (set (set (set R at p) (a i) q) (b i) x) (c i) y) (d i) z) ∙ sets-eq (p ∷ q ∷ x ∷ y ∷ z ∷ []) R at h
-
-pub three_over : (R : List ℕ) (at p q x : ℕ) → at + 3 ≤ length R
-    → set (set (set R at p) (at + 1) q) (at + 2) x ≡ over R at (p ∷ q ∷ x ∷ [])
-three_over R at p q x h =
-    let a : at + 1 ≡ suc at = omega arith in
-    let b : at + 2 ≡ suc (suc at) = omega arith in
-    (λ i. set (set (set R at p) (a i) q) (b i) x) ∙ sets-eq (p ∷ q ∷ x ∷ []) R at h
+-- a part written
+pub put_over : (R : List ℕ) (a k : ℕ) (ys vs : List ℕ) → ys ≡ vs → k ≡ length vs → put_mid a k R ys ≡ over R a vs
+put_over R a k ys vs e h = (λ i. put_mid a (h i) R (e i)) ∙ ap (λ (l : List ℕ). take a R ++ (vs ++ l)) (drop-drop (length vs) a R) ∙ sym (append_assoc (take a R) vs (drop (a + length vs) R))
 
 pub gate_bytes_snoc : (qs : List Gate) (q : Gate) → gate_bytes (qs ++ (q ∷ [])) ≡ gate_bytes qs ++ (71 ∷ 84 ∷ q.kind ∷ in_byte q.left ∷ in_byte q.right ∷ [])
 unfolding gate_bytes

@@ -1,6 +1,7 @@
 -- Laws of `answers` and `records`, for the loops. Assumes nothing.
+use Rattle.std.specs.Prelude.{Err}
+use Rattle.circuit.specs.Rules.{Answer, done}
 use mathlib.Core.Path.{◌≡◌, refl, ap, ◌∙◌, sym}
-use mathlib.Core.Bool.{Bool}
 use mathlib.Core.List.{List, [], ◌∷◌, ◌++◌, append_assoc}
 use Prim.Native.Nat.{ℕ, zero, suc, ◌<◌, ◌-◌, ◌+◌, ◌*◌}
 use native.Mathlib.Omega.{arith}
@@ -9,29 +10,16 @@ use native.Mathlib.Numerals.{add-one}
 use lib.ListN.{length, get_or, drop, set, replicate}
 use lib.Seq.{drop-drop, get_or-drop, set_at}
 use Rattle.circuit.specs.declared.Refusal.{Refusal}
-use Rattle.circuit.specs.declared.Answer.{Answer}
-use Rattle.circuit.specs.declared.Answer.TheVariants.{Done, Refused}
 use Rattle.circuit.specs.Rules.{and_then}
 use Rattle.stored.specs.Stored.{records}
-use Rattle.stored.specs.Reading.{answers, gate_record, gate_here, out_record, out_here}
+use Rattle.stored.specs.Reading.{answers}
 
 -- a byte of what is left to read
-pub byte_here : (s : List ℕ) (at : ℕ) → get_or s at 0 ≡ get_or (drop at s) 0 0
-byte_here s at = let e : at ≡ at + 0 = omega arith in ap (λ (x : ℕ). get_or s x 0) e ∙ sym (get_or-drop at s 0 0)
-
 pub byte_at : (s : List ℕ) (at k : ℕ) → get_or s (at + k) 0 ≡ get_or (drop at s) k 0
 byte_at s at k = sym (get_or-drop at s k 0)
 
-pub gate-at : (only : Bool) (line : ℕ) (s : List ℕ) (at : ℕ)
-    → gate_record only line (get_or s at 0) (get_or s (at + 1) 0) (get_or s (at + 2) 0) (get_or s (at + 3) 0) (get_or s (at + 4) 0) ≡ gate_here only line (drop at s)
-gate-at only line s at = λ i. gate_record only line (byte_here s at i) (byte_at s at 1 i) (byte_at s at 2 i) (byte_at s at 3 i) (byte_at s at 4 i)
-
-pub out_at : (lines k : ℕ) (s : List ℕ) (at : ℕ)
-    → out_record lines (get_or s at 0) (get_or s (at + 1) 0) (get_or s (at + 2) 0) ≡ out_here lines k (drop at s)
-out_at lines k s at = λ i. out_record lines (byte_here s at i) (byte_at s at 1 i) (byte_at s at 2 i)
-
 module _ (here : ℕ → List ℕ → Answer) (size : ℕ) (s : List ℕ) where
-  pub answers_end : (k c at : ℕ) → c ≡ 0 → Done ≡ answers here size k c (drop at s)
+  pub answers_end : (k c at : ℕ) → c ≡ 0 → done ≡ answers here size k c (drop at s)
   unfolding answers
   answers_end k c at e = rw e
 
@@ -40,12 +28,12 @@ module _ (here : ℕ → List ℕ → Answer) (size : ℕ) (s : List ℕ) where
   unfolding answers
   answers_step k c at c' e = rw (e, ← add-one, drop-drop)
 
-  pub answers_stop : (k c at : ℕ) (w : Refusal) → 0 < c → here k (drop at s) ≡ Refused w → Refused w ≡ answers here size k c (drop at s)
+  pub answers_stop : (k c at : ℕ) (w : Refusal) → 0 < c → here k (drop at s) ≡ Err w → Err w ≡ answers here size k c (drop at s)
   answers_stop k c at w h r =
       let e : c ≡ suc (c - 1) = omega arith in
       sym (answers_step k c at (c - 1) e ∙ ap (λ (x : Answer). and_then x (answers here size (k + 1) (c - 1) (drop (at + size) s))) r)
 
-  pub answers_next : (k c at k' c' at' : ℕ) → c ≡ suc c' → k' ≡ k + 1 → at' ≡ at + size → here k (drop at s) ≡ Done
+  pub answers_next : (k c at k' c' at' : ℕ) → c ≡ suc c' → k' ≡ k + 1 → at' ≡ at + size → here k (drop at s) ≡ done
       → answers here size k' c' (drop at' s) ≡ answers here size k c (drop at s)
   answers_next k c at k' c' at' e f g r =
       (λ i. answers here size (f i) c' (drop (g i) s))

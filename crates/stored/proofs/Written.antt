@@ -1,4 +1,5 @@
 -- What `write` leaves, from what each part leaves. Assumes nothing.
+use Rattle.std.specs.Prelude.{Ok, Err}
 use mathlib.Core.Path.{◌≡◌, refl, ap, ◌∙◌, sym}
 use mathlib.Core.Bool.{true, false}
 use mathlib.Core.List.{List, [], ◌∷◌, ◌++◌}
@@ -13,10 +14,8 @@ use Rattle.circuit.specs.Rules.{shaped}
 use Rattle.circuit.specs.Lines.{upto}
 use Rattle.circuit.specs.Structs.{gate_of, out_of, listed}
 use Rattle.circuit.proofs.Upto.{upto-length}
-use Rattle.stored.specs.declared.Writing.{Writing}
-use Rattle.stored.specs.declared.Writing.TheVariants.{Written, NotWritten}
 use Rattle.stored.specs.Stored.{gate_bytes, out_bytes, stored}
-use Rattle.stored.specs.Writing.{over, write_answer, room_after, Wrote}
+use Rattle.stored.specs.Writing.{Writing, over, write_answer, room_after, Wrote}
 use Rattle.stored.proofs.Over.{over_next, gates_size, outs_size}
 
 module _ (c : Circuit) where
@@ -42,22 +41,22 @@ module _ (c : Circuit) where
     left : (r : Writing) → r ≡ write_answer c (length R) → room_after r (stored (listed c)) R ≡ R → Wrote c R r R
     left r a e = record { answer = a; bytes = sym e ∙ ap (λ (x : Writing). room_after x (stored (listed c)) R) a }
 
-    pub no_shape : shaped c.n c.m c.g ≡ false → Wrote c R (NotWritten Shape) R
+    pub no_shape : shaped c.n c.m c.g ≡ false → Wrote c R (Err Shape) R
     unfolding write_answer
-    no_shape e = left (NotWritten Shape) (simp e) refl
+    no_shape e = left (Err Shape) (simp e) refl
 
     module _ (e : shaped c.n c.m c.g ≡ true) where
-      pub no_room : length R < size → Wrote c R (NotWritten NoRoom) R
+      pub no_room : length R < size → Wrote c R (Err NoRoom) R
       unfolding write_answer
-      no_room h = left (NotWritten NoRoom) (simp (e, lt-leb (length (stored (listed c))) (length R) (omega (arith, size_is)))) refl
+      no_room h = left (Err NoRoom) (simp (e, lt-leb (length (stored (listed c))) (length R) (omega (arith, size_is)))) refl
 
-      done : size ≤ length R → Written size ≡ write_answer c (length R)
+      fits : size ≤ length R → Ok size ≡ write_answer c (length R)
       unfolding write_answer
-      done h = simp (e, le-leb (length (stored (listed c))) (length R) (omega (arith, size_is))) (ap Written (sym size_is))
+      fits h = simp (e, le-leb (length (stored (listed c))) (length R) (omega (arith, size_is))) (ap Ok (sym size_is))
 
-      pub written : (A B C : List ℕ) → size ≤ length R → A ≡ over R 0 head → B ≡ over A 5 G → C ≡ over B (5 + 5 * c.g) O → Wrote c R (Written size) C
+      pub written : (A B C : List ℕ) → size ≤ length R → A ≡ over R 0 head → B ≡ over A 5 G → C ≡ over B (5 + 5 * c.g) O → Wrote c R (Ok size) C
       written A B C h p q r =
-          let w = done h in
+          let w = fits h in
           let zg = gates_size (gate_of c) c.g in
           let zo = outs_size (out_of c) c.m in
           let b : B ≡ over R 0 (head ++ G) = q ∙ over_next R A 0 5 head G p (omega arith) (omega arith) in

@@ -1,14 +1,12 @@
 -- What reading some bytes answers: the refusals in the order of "Order. Open", with the numbers of "Numbers given back".
-use Rattle.std.specs.Prelude.{Bool, ◌&&◌, List, ◌≡◌, ℕ, zero, suc, ◌+◌, ◌*◌, ◌≤◌, leb, eqb, length, get_or, drop}
+use Rattle.std.specs.Prelude.{Result, Ok, Bool, ◌&&◌, List, ◌≡◌, ℕ, zero, suc, ◌+◌, ◌*◌, ◌≤◌, leb, eqb, length, get_or, drop}
+use Rattle.circuit.specs.declared.Circuit.{Circuit}
 use Rattle.circuit.specs.declared.Refusal.{Refusal}
 use Rattle.circuit.specs.declared.Refusal.TheVariants.{Shape, Length, Mark}
-use Rattle.circuit.specs.declared.Answer.{Answer}
-use Rattle.circuit.specs.declared.Answer.TheVariants.{Done, Refused}
 use Rattle.circuit.specs.Lines.{Listing, gate}
-use Rattle.circuit.specs.Structs.{held, no_circuit}
+use Rattle.circuit.specs.Structs.{held}
 use Rattle.circuit.specs.Sizes.{most_outputs, most_gates}
-use Rattle.circuit.specs.Rules.{and_then, unless, gate_answer, out_answer, shaped}
-use Rattle.stored.specs.declared.Reading.{Reading}
+use Rattle.circuit.specs.Rules.{Answer, done, and_then, unless, gate_answer, out_answer, shaped}
 use Rattle.stored.specs.Stored.{SH, GT, OP, listing_in}
 
 -- two bytes are a mark
@@ -34,7 +32,7 @@ out_here lines k s = out_record lines (get_or s 0 0) (get_or s 1 0) (get_or s 2 
 -- record by record, `count` of them of `size` bytes each, the first of them number k: the first refusal
 module _ (here : ℕ → List ℕ → Answer) (size : ℕ) where
   unfoldable pub answers : ℕ → ℕ → List ℕ → Answer
-  answers k zero s = Done
+  answers k zero s = done
   answers k (suc count) s = and_then (here k s) (answers (suc k) count (drop size s))
 
 -- past the mark `SH`: shape (1), whole length (2), then the gates, then the outputs
@@ -51,28 +49,13 @@ reading_answer only s =
     (unless (is_mark SH (get_or s 0 0) (get_or s 1 0)) Mark
     (body_answer only s (get_or s 2 0) (get_or s 3 0) (get_or s 4 0)))
 
--- what reading gives: a circuit, or a refusal
-pub data Outcome : Type 0 where
-  found : Listing → Outcome
-  refused : Refusal → Outcome
+-- what reading some bytes gives: the circuit, where nothing is refused
+abbrev pub read_stored : Bool → List ℕ → Result Listing Refusal
+read_stored only s = and_then (reading_answer only s) (Ok (listing_in s))
 
--- the circuit, where nothing is refused
-abbrev pub outcome : Answer → Listing → Outcome
-outcome Done c = found c
-outcome (Refused w) c = refused w
-
--- what reading some bytes gives
-abbrev pub read_stored : Bool → List ℕ → Outcome
-read_stored only s = outcome (reading_answer only s) (listing_in s)
-
--- the same as the code gives it: the circuit beside the answer, and no circuit beside a refusal
-abbrev pub reading : Answer → Listing → Reading
-reading Done c = record { circuit = held c; answer = Done }
-reading (Refused w) c = record { circuit = no_circuit; answer = Refused w }
-
--- what `read` gives for some bytes
-abbrev pub reading_of : Bool → List ℕ → Reading
-reading_of only s = reading (reading_answer only s) (listing_in s)
+-- the same as `read` gives it: the struct that holds the circuit
+abbrev pub reading_of : Bool → List ℕ → Result Circuit Refusal
+reading_of only s = and_then (reading_answer only s) (Ok (held (listing_in s)))
 
 -- the bytes are as long as the numbers in them say
 pub record Whole (s : List ℕ) : Type 0 where

@@ -1,19 +1,18 @@
 // Reading a stored circuit and storing it again, in one call with one number for its answer.
-ghost use Rattle.std.specs.Prelude.{◌≡◌};
-ghost use Rattle.stored.specs.Writing.{writing_code, Restored};
+ghost use Rattle.std.specs.Prelude.{◌≡◌, length};
+ghost use Rattle.stored.specs.Writing.{room_after, restore_answer, writing_code, Restored};
 
-use crate::Writing;
 use crate::reader::read;
 use crate::writer::write;
-use circuit::{Answer, refusal_no};
+use circuit::{Refusal, refusal_no};
 
 // An answer as one number: how many bytes were written, or 65,536 times the refusal's number.
-pub fn writing_code(w: Writing) -> usize
+pub fn writing_code(w: Result<usize, Refusal>) -> usize
     ensures { result ≡ writing_code w }
 {
     match w {
-        Writing::Written(count) => count,
-        Writing::NotWritten(why) => 65536 * refusal_no(why),
+        Ok(count) => count,
+        Err(why) => 65536 * refusal_no(why),
     }
 }
 
@@ -21,14 +20,14 @@ pub fn writing_code(w: Writing) -> usize
 pub fn restored(bytes: &[u8], only: bool, room: &mut [u8]) -> usize
     ensures { Restored only bytes.now room.old result room.new }
 {
-    let reading = read(bytes, only);
-    let answer = reading.answer;
-    match answer {
-        Answer::Refused(why) => writing_code(Writing::NotWritten(why)),
-        Answer::Done => {
-            let c = reading.circuit;
-            let written = write(c, room);
-            writing_code(written)
-        }
-    }
+    writing_code(restore(bytes, only, room))
+}
+
+// The same with the refusal for an answer.
+fn restore(bytes: &[u8], only: bool, room: &mut [u8]) -> Result<usize, Refusal>
+    ensures answer { result ≡ restore_answer only bytes.now (length room.old) }
+    ensures bytes { room.new ≡ room_after result bytes.now room.old }
+{
+    let c = read(bytes, only)?;
+    write(c, room)
 }

@@ -1,10 +1,10 @@
 -- The gates of an accepted circuit read lines below their own, and a gate with other lines is accepted. Assumes nothing.
+use Rattle.circuit.specs.Rules.{done}
 use mathlib.Core.Path.{◌≡◌, ap, ap₂, ◌∙◌, sym}
 use mathlib.Core.Bool.{Bool, true, ◌&&◌}
 use Prim.Native.Nat.{ℕ, ◌<◌, ◌+◌}
 use lib.Dec.{leb, ltb, eqb}
 use borrow.Author.Tests.{lt-ltb, eqb-true}
-use Rattle.circuit.specs.declared.Answer.TheVariants.{Done}
 use Rattle.circuit.specs.declared.Refusal.TheVariants.{UnknownKind, Operand}
 use Rattle.circuit.specs.Lines.{Gate, Listing, gate, gate_at}
 use Rattle.circuit.specs.Rules.{unless, operands_fit, gate_answer}
@@ -30,8 +30,8 @@ renamed_fit f m low q =
     ∙ ap (λ (t : Bool). t && eqb 0 0) (lt-ltb (f q.left) m (low q.left)))
 
 -- so a gate that was accepted is accepted there with its new lines
-pub renamed_fits : (f : ℕ → ℕ) (m : ℕ) → ((i : ℕ) → f i < m) → (only : Bool) (line : ℕ) (q : Gate) → gate_answer only line q ≡ Done
-    → gate_answer only m (renamed f q) ≡ Done
+pub renamed_fits : (f : ℕ → ℕ) (m : ℕ) → ((i : ℕ) → f i < m) → (only : Bool) (line : ℕ) (q : Gate) → gate_answer only line q ≡ done
+    → gate_answer only m (renamed f q) ≡ done
 unfolding gate_answer renamed
 renamed_fits f m low only line q h =
     let p = past (leb q.kind 6) UnknownKind h in
@@ -40,7 +40,7 @@ renamed_fits f m low only line q h =
     λ i. unless (p.0 i) UnknownKind (unless (r i) Operand (o.1 i))
 
 -- lines that stay give the gate as it was, since NOT has a second operand of 0
-pub renamed_same : (f : ℕ → ℕ) (only : Bool) (line : ℕ) (q : Gate) → ((i : ℕ) → i < line → f i ≡ i) → gate_answer only line q ≡ Done → renamed f q ≡ q
+pub renamed_same : (f : ℕ → ℕ) (only : Bool) (line : ℕ) (q : Gate) → ((i : ℕ) → i < line → f i ≡ i) → gate_answer only line q ≡ done → renamed f q ≡ q
 unfolding gate_answer
 renamed_same f only line q e h =
     let w = gate_fits only line q h in

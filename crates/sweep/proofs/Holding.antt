@@ -2,66 +2,33 @@
 use mathlib.Core.Path.{◌≡◌, refl, ap, ap₂, ◌∙◌, sym, subst}
 use mathlib.Core.Bool.{Bool, true, false, cond}
 use mathlib.Core.Logic.{⊎_elim}
-use mathlib.Core.List.{List, [], ◌∷◌, map}
-use Prim.Native.Nat.{ℕ, zero, suc, ◌+◌, ◌-◌, ◌%◌, ◌≤◌, ◌<◌, max}
+use mathlib.Core.List.{List, [], ◌∷◌, ◌++◌, map}
+use Prim.Native.Nat.{ℕ, zero, suc, ◌+◌, ◌-◌, ◌%◌, ◌≤◌, ◌<◌}
 use native.Mathlib.Omega.{arith}
 use native.Mathlib.Nat.{mod-eq_of_lt}
 use native.Mathlib.Numerals.{add-one}
-use lib.Dec.{eqb}
 use lib.ListN.{length, get_or, set, take, replicate, length-append, length-map}
-use lib.Seq.{set-get_or}
-use borrow.Author.Tests.{eq-eqb, ne_eqb}
 use Rattle.circuit.specs.declared.Circuit.{Circuit}
 use Rattle.circuit.specs.Gate.{Kind, kind_of}
-use Rattle.circuit.specs.Lines.{Gate, gate, no_gate, listing, gate_at, reads, upto, padded}
+use Rattle.circuit.specs.Lines.{Gate, gate, no_gate, listing, gate_at, upto, padded}
 use Rattle.circuit.specs.Rules.{shaped}
 use Rattle.circuit.specs.Sizes.{most_inputs, most_outputs, most_gates, most_lines, held16}
 use Rattle.circuit.specs.Structs.{column, held, gate_of, out_of, listed}
 use Rattle.circuit.proofs.GateLaws.{two_operands, high_not}
-use Rattle.circuit.proofs.Listed.{gate-listed, column_read, column-put}
+use Rattle.circuit.proofs.Listed.{gate-listed, column-put}
 use Rattle.circuit.proofs.Operands.{by_operands}
 use Rattle.circuit.proofs.Padding.{pad_read, padded-none, padded-length, padded-take, padded-put, padded_more}
 use Rattle.circuit.proofs.Shapes.{shape_is}
 use Rattle.circuit.proofs.Upto.{upto-length, upto_same, upto_take, map-upto}
 use Rattle.sweep.specs.declared.Merging.{Merging}
-use Rattle.sweep.specs.Sweep.{back, used, same_gate, place, joined, renamed, Sweep, to, turned, sweep_to, sweep_of, swept, swept_in}
+use Rattle.sweep.specs.Sweep.{back, used, place, joined, renamed, Sweep, to, turned, sweep_to, sweep_of, swept, swept_in}
 use Rattle.sweep.specs.Parts.{key_of, first_at, second_kept, marked, merging, sweep_in}
-use Rattle.sweep.proofs.SameLaws.{alike, place-le, place_found, joined_cases, renamed_two, renamed_one}
+use Rattle.sweep.proofs.SameLaws.{place-le, joined_cases, renamed_two, renamed_one}
 use Rattle.sweep.proofs.FoldLaws.{put, placed, turn_kept, turn_dropped, new_length, kept_few, kept_all, lands}
-use Rattle.sweep.proofs.Finding.{Small, same_key, key_place}
+use Rattle.sweep.proofs.Finding.{Small, key_place}
 use Rattle.sweep.proofs.Marks.{marked_read}
 
 -- ---- the columns of the gates kept
-
--- so many are kept with one more
-pub joined-count : (p : Gate) (qs : List Gate) → max (length qs) (place p qs + 1) ≡ length (joined p qs)
-joined-count p qs =
-    ⊎_elim (λ w. omega (arith, w.0, ap length w.1)) (λ w. omega (arith, w.0, ap length w.1, length-append qs (p ∷ []))) (joined_cases p qs)
-
--- a column with one more: v is the gate's own where it is new, and what stands there where one is the same
-column_join : (f : Gate → ℕ) (p : Gate) (qs : List Gate) (v : ℕ) → length qs < most_gates → (place p qs ≡ length qs → v ≡ f p)
-    → (place p qs < length qs → v ≡ get_or (column f qs) (place p qs) 0) → set (column f qs) (place p qs) v ≡ column f (joined p qs)
-column_join f p qs v h own old =
-    ⊎_elim (λ w. ap (set (column f qs) (place p qs)) (old w.0) ∙ set-get_or (column f qs) (place p qs) 0 ∙ ap (column f) (sym w.1))
-    (λ w. ap₂ (set (column f qs)) w.0 (own w.0) ∙ column-put f qs p h ∙ ap (column f) (sym w.1)) (joined_cases p qs)
-
--- where all gates that are the same have one entry it is stored in either case
-column_same : (f : Gate → ℕ) → f no_gate ≡ 0 → ((p q : Gate) → same_gate p q ≡ true → f p ≡ f q) → (p : Gate) (qs : List Gate) → length qs < most_gates
-    → set (column f qs) (place p qs) (f p) ≡ column f (joined p qs)
-column_same f z e p qs h =
-    column_join f p qs (f p) h (λ w. refl) (λ w. e p (get_or qs (place p qs) no_gate) (place_found p qs w) ∙ sym (column_read f z qs (place p qs)))
-
--- where they may differ it is stored where the gate is new
-column_kept : (f : Gate → ℕ) (p : Gate) (qs : List Gate) → length qs < most_gates
-    → set (column f qs) (place p qs) (cond (eqb (place p qs) (length qs)) (f p) (get_or (column f qs) (place p qs) 0)) ≡ column f (joined p qs)
-column_kept f p qs h =
-    let old = get_or (column f qs) (place p qs) 0 in
-    column_join f p qs (cond (eqb (place p qs) (length qs)) (f p) old) h (λ w. ap (λ (t : Bool). cond t (f p) old) (eq-eqb (place p qs) (length qs) w))
-    (λ w. ap (λ (t : Bool). cond t (f p) old) (ne_eqb (place p qs) (length qs) (λ e. omega (arith, e, w))))
-
-no_key : key_of no_gate ≡ 0
-unfolding key_of reads
-no_key = refl
 
 -- the keys among which one is sought
 column_keys : (qs : List Gate) → length qs ≤ most_gates → upto (λ (i : ℕ). get_or (column key_of qs) i 0) (length qs) ≡ map key_of qs
@@ -164,35 +131,60 @@ module _ (c : Circuit) (live : List Bool) where
       ∙ ap (first_at (key_of p)) (column_keys qs (omega (arith, kept_few c.n Lit (gate_of c) k)))
       ∙ key_place p qs (subst Small (sym ep) (put_small h m k l)) (kept_small h m k l)
 
-  -- and what is stored
-  pub merged_kept : (k : ℕ) {keys kinds left right new : List ℕ} {count : ℕ} → c.n + k < most_lines → k < most_gates → Merged k keys kinds left right new count
-      → Lit (c.n + k) ≡ true → (p : Gate) → p ≡ put c.n Lit (gate_of c) k → (key at a b v some : ℕ) → key ≡ key_of p → at ≡ place p (Sw k).kept
-      → a ≡ cond (eqb at count) p.left (get_or left at 0) → b ≡ cond (eqb at count) p.right (get_or right at 0) → some ≡ max count (at + 1)
-      → v ≡ (c.n + at) % held16
-      → Merged (k + 1) (set keys at key) (set kinds at p.kind) (set left at a) (set right at b) (set new (c.n + k) v) some
-  merged_kept k {keys} {kinds} {left} {right} {new} {count} h m t e p ep key at a b v some ek ea el er es ev =
-      let n = c.n in
-      let qs = (Sw k).kept in
-      let few = kept_few n Lit (gate_of c) k in
-      let room : length qs < most_gates = omega arith in
-      let s = turn_kept n Lit (gate_of c) k e in
-      let l = new_length n Lit (gate_of c) k in
-      let now : joined p qs ≡ (Sw (suc k)).kept = ap (λ (z : Gate). joined z qs) ep ∙ sym (ap (λ (z : Sweep). z.kept) s) in
-      let is : at ≡ placed n Lit (gate_of c) k = ea ∙ ap (λ (z : Gate). place z qs) ep in
-      let low : v ≡ n + placed n Lit (gate_of c) k =
-      ev ∙ ap (λ (z : ℕ). (n + z) % held16) is ∙ mod-eq_of_lt (omega (arith, place-le (put n Lit (gate_of c) k) qs)) in
-      let x = t.in_left in
-      let y = t.in_right in
-      let o = t.so_many in
-      subst (λ (j : ℕ). Merged j (set keys at key) (set kinds at p.kind) (set left at a) (set right at b) (set new (n + k) v) some) (sym (add-one k))
-      (record {
-        in_keys = (λ i. set (t.in_keys i) (ea i) (ek i)) ∙ column_same key_of no_key same_key p qs room ∙ ap (column key_of) now;
-        in_kinds = (λ i. set (t.in_kinds i) (ea i) p.kind) ∙ column_same (λ (q : Gate). q.kind) refl (λ p q w. (alike p q w).kinds) p qs room ∙ ap (column (λ (q : Gate). q.kind)) now;
-        in_left = ap (set left at) el ∙ (λ i. set (x i) (ea i) (cond (eqb (ea i) (o i)) p.left (get_or (x i) (ea i) 0))) ∙ column_kept (λ (q : Gate). q.left) p qs room ∙ ap (column (λ (q : Gate). q.left)) now;
-        in_right = ap (set right at) er ∙ (λ i. set (y i) (ea i) (cond (eqb (ea i) (o i)) p.right (get_or (y i) (ea i) 0))) ∙ column_kept (λ (q : Gate). q.right) p qs room ∙ ap (column (λ (q : Gate). q.right)) now;
-        lines = (λ i. set (t.lines i) (n + k) (low i)) ∙ padded-put most_lines 0 (Sw k).new (n + k) (n + placed n Lit (gate_of c) k) (sym l) h ∙ ap (λ (z : Sweep). padded most_lines 0 z.new) (sym s);
-        so_many = es ∙ (λ i. max (o i) (ea i + 1)) ∙ joined-count p qs ∙ ap length now;
-      })
+  -- what is stored
+  module _ (k : ℕ) {keys kinds left right new : List ℕ} {count : ℕ} (h : c.n + k < most_lines) (m : k < most_gates) (t : Merged k keys kinds left right new count)
+      (e : Lit (c.n + k) ≡ true) (p : Gate) (ep : p ≡ put c.n Lit (gate_of c) k) (at v : ℕ) (ea : at ≡ place p (Sw k).kept) (ev : v ≡ (c.n + at) % held16) where
+    abbrev qs : List Gate
+    qs = (Sw k).kept
+
+    few : length qs ≤ k
+    few = kept_few c.n Lit (gate_of c) k
+
+    now : joined p qs ≡ (Sw (suc k)).kept
+    now = ap (λ (z : Gate). joined z qs) ep ∙ sym (ap (λ (z : Sweep). z.kept) (turn_kept c.n Lit (gate_of c) k e))
+
+    -- its new line,
+    line : set new (c.n + k) v ≡ padded most_lines 0 (Sw (suc k)).new
+    line =
+        let at_is : at ≡ placed c.n Lit (gate_of c) k = ea ∙ ap (λ (z : Gate). place z qs) ep in
+        let low : v ≡ c.n + placed c.n Lit (gate_of c) k =
+        ev ∙ ap (λ (z : ℕ). (c.n + z) % held16) at_is ∙ mod-eq_of_lt (omega (arith, few, place-le (put c.n Lit (gate_of c) k) qs)) in
+        (λ i. set (t.lines i) (c.n + k) (low i))
+        ∙ padded-put most_lines 0 (Sw k).new (c.n + k) (c.n + placed c.n Lit (gate_of c) k) (sym (new_length c.n Lit (gate_of c) k)) h
+        ∙ ap (λ (z : Sweep). padded most_lines 0 z.new) (sym (turn_kept c.n Lit (gate_of c) k e))
+
+    -- alone where one is the same,
+    pub merged_same : (at ≡ count → ⊥) → Merged (k + 1) keys kinds left right (set new (c.n + k) v) count
+    merged_same o =
+        let q : qs ≡ (Sw (suc k)).kept = ⊎_elim (λ w. sym w.1) (λ w. absurd (o (omega (arith, w.0, ea, t.so_many)))) (joined_cases p qs) ∙ now in
+        subst (λ (j : ℕ). Merged j keys kinds left right (set new (c.n + k) v) count) (sym (add-one k))
+        (record {
+          in_keys = t.in_keys ∙ ap (column key_of) q;
+          in_kinds = t.in_kinds ∙ ap (column (λ (q : Gate). q.kind)) q;
+          in_left = t.in_left ∙ ap (column (λ (q : Gate). q.left)) q;
+          in_right = t.in_right ∙ ap (column (λ (q : Gate). q.right)) q;
+          lines = line;
+          so_many = t.so_many ∙ ap length q;
+        })
+
+    -- and the gate itself where none is
+    pub merged_new : (key : ℕ) → key ≡ key_of p → at ≡ count
+        → Merged (k + 1) (set keys at key) (set kinds at p.kind) (set left at p.left) (set right at p.right) (set new (c.n + k) v) (count + 1)
+    merged_new key ek o =
+        let z : at ≡ length qs = o ∙ t.so_many in
+        let q : qs ++ (p ∷ []) ≡ (Sw (suc k)).kept = ⊎_elim (λ w. absurd (omega (arith, w.0, ea, z))) (λ w. sym w.1) (joined_cases p qs) ∙ now in
+        let room : length qs < most_gates = omega (arith, few, m) in
+        let stored : (f : Gate → ℕ) (col : List ℕ) (x : ℕ) → col ≡ column f qs → x ≡ f p → set col at x ≡ column f (Sw (suc k)).kept =
+        λ f col x a b. (λ i. set (a i) (z i) (b i)) ∙ column-put f qs p room ∙ ap (column f) q in
+        subst (λ (j : ℕ). Merged j (set keys at key) (set kinds at p.kind) (set left at p.left) (set right at p.right) (set new (c.n + k) v) (count + 1)) (sym (add-one k))
+        (record {
+          in_keys = stored key_of keys key t.in_keys ek;
+          in_kinds = stored (λ (q : Gate). q.kind) kinds p.kind t.in_kinds refl;
+          in_left = stored (λ (q : Gate). q.left) left p.left t.in_left refl;
+          in_right = stored (λ (q : Gate). q.right) right p.right t.in_right refl;
+          lines = line;
+          so_many = omega (arith, t.so_many, length-append qs (p ∷ []), ap length q);
+        })
 
   pub merged_moved : (k : ℕ) {keys kinds left right new : List ℕ} {count : ℕ} {keys' kinds' left' right' new' : List ℕ} {count' : ℕ}
       → keys' ≡ keys → kinds' ≡ kinds → left' ≡ left → right' ≡ right → new' ≡ new → count' ≡ count

@@ -1,4 +1,5 @@
 -- A gate is kept or merged exactly where an output names a line that is reached from it, in the words that edits use. Assumes nothing.
+use Rattle.circuit.specs.Rules.{done}
 use mathlib.Core.Path.{◌≡◌, refl, ap, ◌∙◌, sym, subst}
 use mathlib.Core.Bool.{Bool, true, false, ◌||◌, true≢false}
 use mathlib.Core.Logic.{⊎_elim}
@@ -8,7 +9,6 @@ use native.Mathlib.Omega.{arith}
 use lib.Dec.{eqb}
 use lib.ListN.{length, get_or, replicate, length-replicate}
 use borrow.Author.Tests.{eq-eqb, eqb-true}
-use Rattle.circuit.specs.declared.Answer.TheVariants.{Done}
 use Rattle.circuit.specs.Lines.{Listing, gate_at, reads, lines, reach_step, any_of, reached}
 use Rattle.circuit.specs.Rules.{listing_answer}
 use Rattle.circuit.proofs.Keep.{Below}
@@ -39,7 +39,7 @@ both_ways true b f g = sym (f refl)
 both_ways false true f g = g refl
 both_ways false false f g = refl
 
-module _ (only : Bool) (c : Listing) (ok : listing_answer only c ≡ Done) (k : ℕ) (there : k < length c.gates) where
+module _ (only : Bool) (c : Listing) (ok : listing_answer only c ≡ done) (k : ℕ) (there : k < length c.gates) where
   abbrev n : ℕ
   n = c.inputs
 

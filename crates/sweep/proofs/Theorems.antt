@@ -1,4 +1,5 @@
 -- The theorems of the sweep, of every circuit that is accepted. Assumes nothing.
+use Rattle.circuit.specs.Rules.{done}
 use mathlib.Core.Path.{◌≡◌, refl, ap, ap₂, ◌∙◌, sym, subst}
 use mathlib.Core.Bool.{Bool, true, false}
 use mathlib.Core.Logic.{⊎_elim}
@@ -7,7 +8,6 @@ use Prim.Native.Nat.{ℕ, zero, suc, ◌+◌, ◌≤◌, ◌<◌}
 use native.Mathlib.Omega.{arith}
 use lib.ListN.{length, get_or, take, replicate, length-replicate, length-take, length-map}
 use lib.Seq.{take-suc, take-length, length-take-le}
-use Rattle.circuit.specs.declared.Answer.TheVariants.{Done}
 use Rattle.circuit.specs.Gate.{bit, no_words}
 use Rattle.circuit.specs.Lines.{Gate, Listing, gate, listing, gate_at, no_gate, reads, upto, lines, depths, and_depths, words, depth_of, and_depth_of, inputs_on, input_words, output_on, greatest, truth_step, words_step, depth_step, and_depth_step}
 use Rattle.circuit.specs.Rules.{gate_answer, listing_answer}
@@ -27,7 +27,7 @@ map_same : (f : ℕ → ℕ) (xs : List ℕ) → ((j : ℕ) → j < length xs �
 map_same f [] h = refl
 map_same f (x ∷ xs) h = ap₂ (λ (y : ℕ) (l : List ℕ). y ∷ l) (h 0 (omega arith)) (map_same f xs (λ j l. h (suc j) (omega arith)))
 
-module _ (only : Bool) (c : Listing) (ok : listing_answer only c ≡ Done) where
+module _ (only : Bool) (c : Listing) (ok : listing_answer only c ≡ done) where
   abbrev n : ℕ
   n = c.inputs
 
@@ -48,7 +48,7 @@ module _ (only : Bool) (c : Listing) (ok : listing_answer only c ≡ Done) where
   unfolding swept
   swept_fewer = kept_few n (used c) (gate_at c) g
 
-  pub swept_accepted : listing_answer only (swept c) ≡ Done
+  pub swept_accepted : listing_answer only (swept c) ≡ done
   unfolding swept
   swept_accepted =
       let f = fits in
@@ -62,7 +62,7 @@ module _ (only : Bool) (c : Listing) (ok : listing_answer only c ≡ Done) where
         shape = shape;
         shaped-true = shape_true _ _ _ shape;
         gates =
-            kept_all n (used c) (gate_at c) (λ (k : ℕ) (q : Gate). gate_answer only (n + k) q ≡ Done) g
+            kept_all n (used c) (gate_at c) (λ (k : ℕ) (q : Gate). gate_answer only (n + k) q ≡ done) g
             (λ i h e z. renamed_fits (to (S i)) (n + length (S i).kept) (low i) only (n + i) (gate_at c i) (f.gates i h));
         outs = λ j h. out_there (n + length (S g).kept) _ (omega (arith, map_at (to (S g)) c.outs 0 j (omega arith), low g (get_or c.outs j 0)));
       })
@@ -290,5 +290,5 @@ module _ (only : Bool) (c : Listing) (ok : listing_answer only c ≡ Done) where
         λ i. listing n (k i) (o i)
 
 -- a second sweep changes nothing
-pub swept_again : (only : Bool) (c : Listing) → listing_answer only c ≡ Done → swept (swept c) ≡ swept c
+pub swept_again : (only : Bool) (c : Listing) → listing_answer only c ≡ done → swept (swept c) ≡ swept c
 swept_again only c ok = steady only (swept c) (swept_accepted only c ok) (swept-reached only c ok) (swept_firsts only c ok)

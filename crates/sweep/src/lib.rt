@@ -1,7 +1,7 @@
 // The sweep: gates that no output reaches are dropped, gates that are the same are merged, and the numbers closed up.
 #![tactic(auto)]
 
-ghost use Rattle.std.specs.Prelude.{◌≡◌, false, cond, ◌||◌, ℕ, ◌≤◌, max, ◌+◌, eqb, get_or};
+ghost use Rattle.std.specs.Prelude.{◌≡◌, false, ℕ, ◌≤◌, ◌+◌, get_or};
 ghost use Rattle.circuit.specs.Gate.{kind_of};
 ghost use Rattle.circuit.specs.Lines.{gate, upto, padded};
 ghost use Rattle.circuit.specs.Sizes.{most_inputs, most_outputs, most_gates, most_lines};
@@ -23,25 +23,14 @@ pub struct Merging {
     pub new: [u16; LINES],
 }
 
-// One of two holds.
-fn either(a: bool, b: bool) -> bool
-    ensures { result ≡ a || b }
-{
-    if a { true } else { b }
-}
-
 // The lines that outputs name.
 fn named(c: Circuit) -> [bool; LINES]
     requires { c.m ≤ most_outputs }
     ensures { result ≡ marked (upto (out_of c) c.m) }
 {
-    let m = c.m;
     let mut marks = [false; LINES];
-    let mut i: usize = 0;
-    while i < m {
-        let line = line_index(c.outputs[i]);
-        marks[line] = true;
-        i += 1;
+    for i in 0..c.m {
+        marks[line_index(c.outputs[i])] = true;
     }
     marks
 }
@@ -53,16 +42,13 @@ fn used_lines(c: Circuit) -> [bool; LINES]
     ensures { result ≡ marked (back c.n (listed c).gates (listed c).outs) }
 {
     let mut marks = named(c);
-    let n = c.n;
-    let mut k = c.g;
-    while 0 < k {
-        k -= 1;
-        let on = marks[n + k];
+    for k in (0..c.g).rev() {
+        let on = marks[c.n + k];
         let first = c.left[k];
         let x = line_index(first);
         let y = line_index(second_read(c.kinds[k], first, c.right[k]));
-        marks[x] = either(marks[x], on);
-        marks[y] = either(marks[y], on);
+        marks[x] |= on;
+        marks[y] |= on;
     }
     marks
 }
@@ -71,7 +57,7 @@ fn used_lines(c: Circuit) -> [bool; LINES]
 fn digits(kind: u8, low: u16, high: u16) -> u64
     ensures { result ≡ keyed kind low high }
 {
-    (kind as u64 * 65536 + low as u64) * 65536 + high as u64
+    (u64::from(kind) * 65536 + u64::from(low)) * 65536 + u64::from(high)
 }
 
 // The key of a gate, the lesser operand before the greater: gates are the same exactly where their keys are.
@@ -79,11 +65,7 @@ fn key_of(kind: u8, a: u16, b: u16) -> u64
     ensures { result ≡ key_of (gate kind a b) }
 {
     let second = second_read(kind, a, b);
-    if a < second {
-        digits(kind, a, second)
-    } else {
-        digits(kind, second, a)
-    }
+    digits(kind, a.min(second), a.max(second))
 }
 
 // Whether one of the four keys from i on is this one. All are looked at, with no choice between them, so that several are
@@ -115,6 +97,7 @@ fn pass_over(keys: &[u64; GATES], count: usize, key: u64) -> usize
     ensures { (result ≤ count) × Misses key (λ (j : ℕ). get_or keys.now j 0) 0 result }
 {
     let mut i: usize = 0;
+    // A `while`: steps of eight, as long as eight are left.
     while i + 8 <= count {
         if in_eight(keys, i, key) {
             return i;
@@ -124,33 +107,18 @@ fn pass_over(keys: &[u64; GATES], count: usize, key: u64) -> usize
     i
 }
 
-// The first of `count` keys that is this one, or `count`.
+// The first of `count` keys that is this one. Where none is, it is `count`: the place of a new gate.
 fn find_key(keys: &[u64; GATES], count: usize, key: u64) -> usize
     requires { count ≤ most_gates }
     ensures { (result ≡ first_at key (upto (λ (i : ℕ). get_or keys.now i 0) count)) × (result ≤ count) }
 {
-    let mut i = pass_over(keys, count, key);
-    while i < count {
+    let passed = pass_over(keys, count, key);
+    for i in passed..count {
         if key == keys[i] {
             return i;
         }
-        i += 1;
     }
-    i
-}
-
-// What the place `at` of a column has: what it had, unless it is the place of a new gate, past the last of `count`.
-fn kept_at(at: usize, count: usize, old: u16, own: u16) -> u16
-    ensures { result ≡ cond (eqb at count) own old }
-{
-    if at == count { own } else { old }
-}
-
-// The greater of two counts.
-fn greater(a: usize, b: usize) -> usize
-    ensures { result ≡ max a b }
-{
-    if a < b { b } else { a }
+    count
 }
 
 // The second operand of a renamed gate: 0 where the kind reads one line.
@@ -169,47 +137,41 @@ fn first_lines(n: usize) -> [u16; LINES]
     ensures { result ≡ padded most_lines 0 (upto (λ (i : ℕ). i) n) }
 {
     let mut new = [0u16; LINES];
-    let mut i: usize = 0;
-    while i < n {
+    for i in 0..n {
         new[i] = low16(i);
-        i += 1;
     }
     new
 }
 
 // Gate by gate: dropped, merged or kept. A gate that is dropped stores nothing: its new line is 0, as the array has it.
-// One that is merged stores the key and the kind that stand at its place already, and leaves the operands in their order.
+// One that is merged stores its new line alone, and leaves the operands of the gate that it is merged into in their order.
 fn merge(c: Circuit, live: [bool; LINES]) -> Merging
     requires { (1 ≤ c.n) × (c.n ≤ most_inputs) × (c.g ≤ most_gates) }
     ensures { result ≡ merging (sweep_in c live c.g) }
 {
-    let n = c.n;
-    let g = c.g;
     let mut keys = [0u64; GATES];
     let mut kinds = [0u8; GATES];
     let mut left = [0u16; GATES];
     let mut right = [0u16; GATES];
-    let mut new = first_lines(n);
+    let mut new = first_lines(c.n);
     let mut count: usize = 0;
-    let mut k: usize = 0;
-    while k < g {
-        let line = n + k;
+    for k in 0..c.g {
+        let line = c.n + k;
         if live[line] {
             let kind = c.kinds[k];
-            let x = line_index(c.left[k]);
-            let y = line_index(c.right[k]);
-            let a = new[x];
-            let b = second_line(kind, new[y]);
+            let a = new[line_index(c.left[k])];
+            let b = second_line(kind, new[line_index(c.right[k])]);
             let key = key_of(kind, a, b);
             let at = find_key(&keys, count, key);
-            keys[at] = key;
-            kinds[at] = kind;
-            left[at] = kept_at(at, count, left[at], a);
-            right[at] = kept_at(at, count, right[at], b);
-            count = greater(count, at + 1);
-            new[line] = low16(n + at);
+            if at == count {
+                keys[at] = key;
+                kinds[at] = kind;
+                left[at] = a;
+                right[at] = b;
+                count += 1;
+            }
+            new[line] = low16(c.n + at);
         }
-        k += 1;
     }
     Merging {
         count,
@@ -226,11 +188,8 @@ fn point_outs(old: [u16; OUTPUTS], m: usize, new: [u16; LINES]) -> [u16; OUTPUTS
     ensures { result ≡ padded most_outputs 0 (upto (λ (i : ℕ). get_or new (line_in (get_or old i 0)) 0) m) }
 {
     let mut outs = [0u16; OUTPUTS];
-    let mut i: usize = 0;
-    while i < m {
-        let line = line_index(old[i]);
-        outs[i] = new[line];
-        i += 1;
+    for i in 0..m {
+        outs[i] = new[line_index(old[i])];
     }
     outs
 }
@@ -239,28 +198,24 @@ fn point_outs(old: [u16; OUTPUTS], m: usize, new: [u16; LINES]) -> [u16; OUTPUTS
 pub fn sweep(c: Circuit) -> Circuit
     ensures { result ≡ swept_in c }
 {
-    let n = c.n;
-    let m = c.m;
-    let g = c.g;
-    if is_shape(n, m, g) {
-        let live = used_lines(c);
-        let merged = merge(c, live);
-        let new = merged.new;
-        let old = c.outputs;
-        let outputs = point_outs(old, m, new);
-        let count = merged.count;
-        let kinds = merged.kinds;
-        let left = merged.left;
-        let right = merged.right;
-        return Circuit {
-            n,
-            m,
-            g: count,
-            kinds,
-            left,
-            right,
-            outputs,
-        };
+    if !is_shape(c.n, c.m, c.g) {
+        return c;
     }
-    c
+    let Merging {
+        count,
+        kinds,
+        left,
+        right,
+        new,
+    } = merge(c, used_lines(c));
+    let outputs = point_outs(c.outputs, c.m, new);
+    Circuit {
+        n: c.n,
+        m: c.m,
+        g: count,
+        kinds,
+        left,
+        right,
+        outputs,
+    }
 }

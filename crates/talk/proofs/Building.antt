@@ -1,4 +1,5 @@
 -- What is built is no longer than any stored form: a longer room than 2,048 bytes is as good. Assumes nothing.
+use Rattle.std.specs.Prelude.{Ok, Err}
 use mathlib.Core.Path.{◌≡◌, refl, ap, ◌∙◌, subst}
 use mathlib.Core.Bool.{Bool, true, cond}
 use mathlib.Core.List.{List, ◌++◌}
@@ -6,15 +7,12 @@ use Prim.Native.Nat.{ℕ, ◌≤◌, min}
 use native.Mathlib.Omega.{arith}
 use lib.Dec.{leb}
 use lib.ListN.{length}
-use Rattle.circuit.specs.declared.Answer.{Answer}
-use Rattle.circuit.specs.declared.Answer.TheVariants.{Done, Refused}
 use Rattle.circuit.specs.declared.Refusal.TheVariants.{NoRoom}
 use Rattle.circuit.specs.Lines.{Listing}
-use Rattle.circuit.specs.Rules.{listing_answer}
+use Rattle.circuit.specs.Rules.{Answer, done, listing_answer}
 use Rattle.circuit.proofs.RuleLaws.{circuit_fits}
 use Rattle.circuit.proofs.Shapes.{shape_is}
-use Rattle.stored.specs.declared.Writing.{Writing}
-use Rattle.stored.specs.declared.Writing.TheVariants.{Written, NotWritten}
+use Rattle.stored.specs.Writing.{Writing}
 use Rattle.stored.specs.Stored.{stored}
 use Rattle.stored.specs.Writing.{into_room, room_after}
 use Rattle.builder.specs.Call.{built, refusal, build_answer, Builds}
@@ -25,28 +23,28 @@ use Rattle.talk.proofs.Storing.{Sized, stored_short, first_said, cond_sized, leb
 
 -- ---- a circuit, sound where nothing is refused
 
-module _ (a : Answer) (c : Listing) (sound : a ≡ Done → listing_answer true c ≡ Done) where
+module _ (a : Answer) (c : Listing) (sound : a ≡ done → listing_answer true c ≡ done) where
   -- how many bytes it has
   abbrev size : ℕ
   size = length (stored c)
 
   -- no more than any stored form has
-  short : a ≡ Done → size ≤ stored_most
+  short : a ≡ done → size ≤ stored_most
   short e = omega (arith, stored_short c (shape_is _ _ _ (circuit_fits true c (sound e)).shaped-true))
 
   -- a longer room is as good
   room_least : (room : ℕ) → into_room a size (min room stored_most) ≡ into_room a size room
   room_least room = by a refl where
     by : (x : Answer) → a ≡ x → into_room x size (min room stored_most) ≡ into_room x size room
-    by Done e = ap (λ (t : Bool). cond t (Written size) (NotWritten NoRoom)) (leb_least size room (short e))
-    by (Refused w) e = refl
+    by (Ok _) e = ap (λ (t : Bool). cond t (Ok size) (Err NoRoom)) (leb_least size room (short e))
+    by (Err w) e = refl
 
   -- the answer tells how many bytes there are
   room_sized : (room : ℕ) → Sized (into_room a size room) size
   room_sized room = by a refl where
     by : (x : Answer) → a ≡ x → Sized (into_room x size room) size
-    by Done e = cond_sized (leb size room) size NoRoom (short e)
-    by (Refused w) e = λ k q. let z : ◌≡◌ {A = ℕ} 0 1 = cc in absurd (omega arith)
+    by (Ok _) e = cond_sized (leb size room) size NoRoom (short e)
+    by (Err w) e = λ k q. absurd (cc)
 
   -- what was written in a part of a room is first in the room
   written_first : (wanted lent : ℕ) (room rest after : List ℕ) (w : Writing) → lent ≡ min wanted stored_most → length room ≡ lent

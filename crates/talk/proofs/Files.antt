@@ -1,13 +1,13 @@
 -- What is read of an equation file stands first in a room: a longer room than 2,048 bytes is as good. Assumes nothing.
+use Rattle.std.specs.Prelude.{Ok, Err}
 use mathlib.Core.Path.{◌≡◌, refl, ap, ap₂, ◌∙◌, sym, subst}
 use mathlib.Core.List.{List, ◌++◌}
 use Prim.Native.Nat.{ℕ, ◌≤◌, ◌<◌, min}
 use native.Mathlib.Omega.{arith}
 use native.Mathlib.Decide.{dec_lt}
 use lib.ListN.{length}
-use Rattle.drawing.specs.declared.Drawn.{Drawn}
-use Rattle.drawing.specs.declared.Drawn.TheVariants.{Stored, BadText, BadName, NoOutputs, NotStored}
-use Rattle.drawing.specs.Drawing.{drawn_answer, drawn_bytes, room_drawn, EquationsPromise}
+use Rattle.drawing.specs.declared.Refusal.TheVariants.{BadText, BadName, NoOutputs, NotStored}
+use Rattle.drawing.specs.Drawing.{Drawn, drawn_answer, drawn_bytes, room_drawn, EquationsPromise}
 use Rattle.drawing.proofs.Rooms.{drawn-room, drawn_any, drawn_stored}
 use Rattle.talk.specs.Words.{read_name}
 use Rattle.talk.specs.Texts.{hex_line, drawn_text}
@@ -20,15 +20,15 @@ draws_as {s} {t} {room} {out} {r} e p = subst (λ (x : List ℕ). EquationsPromi
 
 -- an answer that tells how many bytes were stored, no more than are looked at
 abbrev SizedFile : Drawn → ℕ → Type 0
-SizedFile d size = (k : ℕ) → d ≡ Stored k → (k ≡ size) × (size ≤ stored_most)
+SizedFile d size = (k : ℕ) → d ≡ Ok k → (k ≡ size) × (size ≤ stored_most)
 
 -- the bytes stand first in the room and are said
 drawn_said : (d : Drawn) (bytes room rest : List ℕ) → SizedFile d (length bytes) → drawn_in d (room_drawn d bytes room ++ rest) ≡ drawn_text d bytes
-drawn_said (Stored k) bytes room rest f = ap (hex_line read_name k) (first_stored k bytes room rest (f k refl))
-drawn_said (BadText place) bytes room rest f = refl
-drawn_said (BadName place) bytes room rest f = refl
-drawn_said NoOutputs bytes room rest f = refl
-drawn_said (NotStored w) bytes room rest f = refl
+drawn_said (Ok k) bytes room rest f = ap (hex_line read_name k) (first_stored k bytes room rest (f k refl))
+drawn_said (Err (BadText place)) bytes room rest f = refl
+drawn_said (Err (BadName place)) bytes room rest f = refl
+drawn_said (Err NoOutputs) bytes room rest f = refl
+drawn_said (Err (NotStored w)) bytes room rest f = refl
 
 module _ (s : List ℕ) where
   -- a longer room is as good

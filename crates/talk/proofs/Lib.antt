@@ -8,6 +8,7 @@ pub mod Storing
 pub mod Building
 pub mod Files
 pub mod Laying
+pub mod Distances
 pub mod Unique
 pub mod Examples
 pub mod Sessions

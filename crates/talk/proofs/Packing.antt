@@ -51,21 +51,6 @@ byte_is w n j end e =
     let word : j / 8 ≡ (8 * j + b) / 64 = omega arith in
     ap₂ (λ (i k : ℕ). bit i (get_or ws k 0)) place word)
 
--- where there are fewer than 8 values
-pub end_small : (n : ℕ) → n < 3 → 2 ^ (2 ^ n) ≡ 2 ^ value_bits n
-end_small zero h = refl
-end_small (suc zero) h = refl
-end_small (suc (suc zero)) h = refl
-end_small (suc (suc (suc n))) h = absurd (omega arith)
-
--- then they are 4 at most
-pub few_bits : (n : ℕ) → n < 3 → 2 ^ n ≤ 4
-few_bits n h = pow_mono {i = n} {j = 2} (omega arith)
-
--- where there are 8 or more
-pub end_large : (n : ℕ) → 3 ≤ n → 256 ≡ 2 ^ value_bits n
-end_large n h = let e : 8 ≡ value_bits n = omega (arith, pow_mono {i = 3} {j = n} h) in ap (λ (c : ℕ). 2 ^ c) e
-
 -- either way a byte
 pub end_fits : (n : ℕ) → 2 ^ value_bits n ≤ 256
 end_fits n = pow_mono {i = value_bits n} {j = 8} (bits_few n)

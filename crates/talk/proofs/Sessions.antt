@@ -1,4 +1,5 @@
 -- Line after line: a program that takes each result on to the next line writes what the definition says of all of them. Assumes nothing.
+use Rattle.std.specs.Prelude.{Option, Some, None}
 use mathlib.Core.Path.{◌≡◌, refl, ap, ap₂, ◌∙◌}
 use mathlib.Core.Bool.{Bool, true, false, cond}
 use mathlib.Core.List.{List, [], ◌∷◌, ◌++◌}
@@ -15,8 +16,6 @@ use Rattle.bench.specs.Run.{Call, after_call, present_from}
 use Rattle.bench.proofs.SoundLaws.{sound_call}
 use Rattle.bench.proofs.RunLaws.{AllCallable, empty_stands}
 use Rattle.bench.proofs.Unique.{one_present}
-use Rattle.text.specs.declared.Number.{Number}
-use Rattle.text.specs.declared.Number.TheVariants.{Value, Not}
 use Rattle.text.specs.Places.{head_word, tail_words, same_list}
 use Rattle.text.specs.Numbers.{number_in, hex_bytes}
 use Rattle.text.proofs.Putting.{counted}
@@ -50,9 +49,9 @@ abbrev Good : Rest → Type 0
 Good f = (s : List ℕ) → Limited (f s)
 
 -- by a number's value
-by_value : (n : Number) {f : ℕ → Order} → ((v : ℕ) → Limited (f v)) → Limited (on_value n f)
-by_value (Value v) p = p v
-by_value Not p = none
+by_value : (n : Option ℕ) {f : ℕ → Order} → ((v : ℕ) → Limited (f v)) → Limited (on_value n f)
+by_value (Some v) p = p v
+by_value None p = none
 
 -- after a number
 good_number : (f : ℕ → Rest) → ((v : ℕ) → Good (f v)) → Good (number f)

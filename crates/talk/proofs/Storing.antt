@@ -1,4 +1,5 @@
 -- Stored bytes in a lent room: no stored form is longer than 1,341 bytes, so that a longer room is as good as one of 2,048. Assumes nothing.
+use Rattle.std.specs.Prelude.{Ok, Err}
 use mathlib.Core.Path.{◌≡◌, refl, ap, ap₂, ◌∙◌, sym}
 use mathlib.Core.Bool.{Bool, true, false, cond}
 use mathlib.Core.List.{List, ◌++◌, append_assoc}
@@ -14,8 +15,7 @@ use Rattle.circuit.specs.declared.Refusal.TheVariants.{NoRoom}
 use Rattle.circuit.specs.Sizes.{most_outputs, most_gates}
 use Rattle.circuit.specs.Lines.{Listing}
 use Rattle.circuit.proofs.Shapes.{Shaped, shape_is}
-use Rattle.stored.specs.declared.Writing.{Writing}
-use Rattle.stored.specs.declared.Writing.TheVariants.{Written, NotWritten}
+use Rattle.stored.specs.Writing.{Writing}
 use Rattle.stored.specs.Stored.{gate_bytes, out_bytes, stored}
 use Rattle.stored.specs.Writing.{room_after}
 use Rattle.stored.proofs.Round.{gate_bytes-length, out_bytes-length}
@@ -38,7 +38,7 @@ stored_short c s =
 
 -- an answer that tells how many bytes were written, no more than are looked at
 abbrev pub Sized : Writing → ℕ → Type 0
-Sized a size = (k : ℕ) → a ≡ Written k → (k ≡ size) × (size ≤ stored_most)
+Sized a size = (k : ℕ) → a ≡ Ok k → (k ≡ size) × (size ≤ stored_most)
 
 -- a lent part of a room is as long as it was asked for
 pub lent_long : (wanted : ℕ) {lent : ℕ} (room : List ℕ) → lent ≡ min wanted stored_most → stored_most ≤ length room → length (take lent room) ≡ lent
@@ -54,8 +54,8 @@ first_stored k bytes room rest e =
 -- the bytes stand first in the room and are said
 written_said : (name : List ℕ) (a : Writing) (bytes room rest : List ℕ) → Sized a (length bytes)
     → written_in name a (room_after a bytes room ++ rest) ≡ written_text name a bytes
-written_said name (Written k) bytes room rest f = ap (hex_line name k) (first_stored k bytes room rest (f k refl))
-written_said name (NotWritten w) bytes room rest f = refl
+written_said name (Ok k) bytes room rest f = ap (hex_line name k) (first_stored k bytes room rest (f k refl))
+written_said name (Err w) bytes room rest f = refl
 
 -- the same where a shorter room was lent, to the same effect
 pub first_said : (name bytes room rest after : List ℕ) (w lent full : Writing) → lent ≡ full → Sized full (length bytes) → w ≡ lent → after ≡ room_after lent bytes room
@@ -65,9 +65,9 @@ first_said name bytes room rest after w lent full e f p q =
     ∙ written_said name full bytes room rest f
 
 -- an answer by whether the room is long enough
-pub cond_sized : (t : Bool) (n : ℕ) (w : Refusal) → n ≤ stored_most → Sized (cond t (Written n) (NotWritten w)) n
+pub cond_sized : (t : Bool) (n : ℕ) (w : Refusal) → n ≤ stored_most → Sized (cond t (Ok n) (Err w)) n
 cond_sized true n w h k e = (cc, h)
-cond_sized false n w h k e = let z : ◌≡◌ {A = ℕ} 0 1 = cc in absurd (omega arith)
+cond_sized false n w h k e = absurd (cc)
 
 -- a longer room is as good
 pub leb_least : (n room : ℕ) → n ≤ stored_most → leb n (min room stored_most) ≡ leb n room
@@ -84,12 +84,12 @@ unfolding store_answer
 store_least nothing h room = refl
 store_least (present s) h room =
     let n = length (stored s.circuit) in
-    ap (λ (t : Bool). cond t (Written n) (NotWritten NoRoom)) (leb_least n room h)
+    ap (λ (t : Bool). cond t (Ok n) (Err NoRoom)) (leb_least n room h)
 
 -- the answer tells how many bytes there are
 store_sized : (p : Present) → length (stored_of p) ≤ stored_most → (room : ℕ) → Sized (store_answer p room) (length (stored_of p))
 unfolding store_answer
-store_sized nothing h room k e = let z : ◌≡◌ {A = ℕ} 0 1 = cc in absurd (omega arith)
+store_sized nothing h room k e = absurd (cc)
 store_sized (present s) h room k e = let n = length (stored s.circuit) in cond_sized (leb n room) n NoRoom h k e
 
 -- what stands on a bench is short enough

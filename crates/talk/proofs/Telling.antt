@@ -1,9 +1,9 @@
 -- A call's answer from what was said of it and what the call promises. Assumes nothing.
+use Rattle.circuit.specs.Rules.{Answer}
 use mathlib.Core.Path.{◌≡◌, refl, ap, ◌∙◌, subst}
 use mathlib.Core.Bool.{Bool, true, false}
 use mathlib.Core.List.{List}
 use Prim.Native.Nat.{ℕ}
-use Rattle.circuit.specs.declared.Answer.{Answer}
 use Rattle.targets.specs.Target.{brought}
 use Rattle.bench.specs.declared.Bench.{Bench}
 use Rattle.bench.specs.State.{Present, limits}

@@ -1,22 +1,19 @@
 -- What the functions inside promise to one another: texts of what the structs hold, and where they stand.
-use Rattle.std.specs.Prelude.{◌≡◌, cond, List, ◌++◌, ℕ, ◌+◌, ◌-◌, ◌/◌, ◌≤◌, min, length, get_or, take, drop}
+use Rattle.std.specs.Prelude.{◌≡◌, Result, Ok, Err, cond, List, ◌++◌, ℕ, ◌+◌, ◌/◌, min, get_or, take}
 use Rattle.io.specs.Counts.{IsPrefixLen}
 use Rattle.circuit.specs.declared.Circuit.{Circuit}
+use Rattle.circuit.specs.declared.Refusal.{Refusal}
 use Rattle.circuit.specs.declared.Refusal.TheVariants.{NothingOpen}
 use Rattle.circuit.specs.Sizes.{most_values}
 use Rattle.circuit.specs.Gate.{no_words, value_in}
-use Rattle.stored.specs.declared.Writing.{Writing}
-use Rattle.stored.specs.declared.Writing.TheVariants.{Written, NotWritten}
-use Rattle.drawing.specs.declared.Drawn.{Drawn}
-use Rattle.drawing.specs.Drawing.{drawn_count, drawn_answer, drawn_bytes}
+use Rattle.stored.specs.Writing.{Writing}
+use Rattle.drawing.specs.Drawing.{Drawn, drawn_count, drawn_answer, drawn_bytes}
 use Rattle.bench.specs.declared.Bench.{Bench}
 use Rattle.bench.specs.declared.Report.{Report}
-use Rattle.bench.specs.declared.Reported.{Reported}
-use Rattle.bench.specs.declared.Reported.TheVariants.{Given, NotGiven}
 use Rattle.bench.specs.State.{Present}
 use Rattle.bench.specs.Held.{Stands}
 use Rattle.bench.specs.Calls.{store_answer, stored_of}
-use Rattle.bench.specs.Parts.{standing}
+use Rattle.bench.specs.Parts.{open_on}
 use Rattle.text.specs.Numbers.{labelled}
 use Rattle.text.specs.Putting.{Put}
 use Rattle.listing.specs.Printed.{new_line, refused_text, counts_text, lines_in, lines_to}
@@ -36,8 +33,8 @@ stored_most = 2048
 
 -- what was written first in a room, or why nothing was
 abbrev pub written_in : List ℕ → Writing → List ℕ → List ℕ
-written_in name (Written count) room = hex_line name count (take (min count stored_most) room)
-written_in name (NotWritten w) room = refused_text w
+written_in name (Ok count) room = hex_line name count (take (min count stored_most) room)
+written_in name (Err w) room = refused_text w
 
 -- what was read of a file and stands first in a room, or why nothing was
 abbrev pub drawn_in : Drawn → List ℕ → List ℕ
@@ -58,7 +55,7 @@ lines_held_in b = labelled held_name (b.n + b.g) ++ lines_to (group_in b) (b.n +
 
 -- the same where anything stands on it
 abbrev pub held_in : Bench → List ℕ
-held_in b = cond (standing b.is_open b.n b.m b.g) (lines_held_in b) (refused_text NothingOpen)
+held_in b = cond (open_on b) (lines_held_in b) (refused_text NothingOpen)
 
 -- a circuit with its report
 unfoldable pub shown_with : Circuit → Report → List ℕ
@@ -66,33 +63,14 @@ shown_with c r =
     counts_text c.n c.m c.g r.depth ++ labelled and_depth_name r.and_depth ++ new_line ++ lines_in c ++ verdict_text r.verdict ++ new_line
 
 -- the same where there is a report
-abbrev pub shown_in : Circuit → Reported → List ℕ
-shown_in c (Given r) = shown_with c r
-shown_in c (NotGiven w) = refused_text w
-
--- the bytes of one part stand first in a room, and those of another after them
-pub record Laid (line room : List ℕ) (p q : Part) (mid end : ℕ) : Type 0 where
-  pub order : mid ≤ end
-  pub inside : end ≤ length room
-  pub counts : IsPrefixLen mid room
-  pub first : take mid room ≡ bytes_of line p
-  pub second : take (end - mid) (drop mid room) ≡ bytes_of line q
-
--- the same, and those of a third part after both
-pub record LaidThree (line room : List ℕ) (p q r : Part) (mid end last : ℕ) : Type 0 where
-  pub two : Laid line room p q mid end
-  pub order : end ≤ last
-  pub inside : last ≤ length room
-  pub third : take (last - end) (drop end room) ≡ bytes_of line r
+abbrev pub shown_in : Circuit → Result Report Refusal → List ℕ
+shown_in c (Ok r) = shown_with c r
+shown_in c (Err w) = refused_text w
 
 -- the bytes of one part stand first in a room, `end` of them
 pub record LaidFirst (line room : List ℕ) (p : Part) (end : ℕ) : Type 0 where
   pub counts : IsPrefixLen end room
   pub bytes : take end room ≡ bytes_of line p
-
--- as many bytes as the words of one line can say
-abbrev pub hex_most : ℕ
-hex_most = 32768
 
 -- what a bench stored for a room so long stands first in a room, or the refusal is told
 pub record StoresFirst (b : Bench) (size : ℕ) (r : Writing) (room : List ℕ) : Type 0 where

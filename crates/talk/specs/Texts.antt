@@ -1,29 +1,23 @@
 -- The text of each answer, as the call language has it: each ends its line.
-use Rattle.std.specs.Prelude.{List, [], ◌∷◌, ◌++◌, ℕ, ◌+◌, ◌*◌, ◌/◌, ◌^◌, min, length, get_or, take}
-use Rattle.circuit.specs.declared.Answer.{Answer}
-use Rattle.circuit.specs.declared.Answer.TheVariants.{Done, Refused}
+use Rattle.std.specs.Prelude.{Option, Some, None, Result, Ok, Err, List, [], ◌∷◌, ◌++◌, ℕ, ◌+◌, ◌*◌, ◌/◌, ◌^◌, min, length, get_or, take}
 use Rattle.circuit.specs.declared.Tally.{Tally}
+use Rattle.circuit.specs.declared.Refusal.{Refusal}
 use Rattle.circuit.specs.declared.Refusal.TheVariants.{NothingOpen}
+use Rattle.circuit.specs.Rules.{Answer}
 use Rattle.circuit.specs.Lines.{Listing, gate_at, upto, values, depths, and_depths, depth_of, and_depth_of}
-use Rattle.stored.specs.declared.Writing.{Writing}
-use Rattle.stored.specs.declared.Writing.TheVariants.{Written, NotWritten}
-use Rattle.distance.specs.declared.Answer.{Answer as Distance}
-use Rattle.distance.specs.declared.Answer.TheVariants.{Gates, Never, Refused as NotAsked}
+use Rattle.stored.specs.Writing.{Writing}
+use Rattle.distance.specs.declared.Refusal.{Refusal as QueryRefusal}
 use Rattle.distance.specs.declared.Found.{Found}
 use Rattle.distance.specs.Query.{query_refusal_no}
-use Rattle.hint.specs.declared.Answer.{Answer as HintAnswer}
-use Rattle.hint.specs.declared.Answer.TheVariants.{Gates as HintGates, Never as HintNever, Refused as HintRefused}
-use Rattle.hint.specs.declared.Hinted.{Hinted}
-use Rattle.drawing.specs.declared.Drawn.{Drawn}
-use Rattle.drawing.specs.declared.Drawn.TheVariants.{Stored, BadText, BadName, NoOutputs, NotStored}
+use Rattle.hint.specs.Hint.{Hinted}
+use Rattle.drawing.specs.declared.Refusal.TheVariants.{BadText, BadName, NoOutputs, NotStored}
+use Rattle.drawing.specs.Drawing.{Drawn}
 use Rattle.targets.specs.Wanted.{packed}
 use Rattle.bench.specs.declared.Verdict.{Verdict}
 use Rattle.bench.specs.declared.Verdict.TheVariants.{Wrong, OverGates, OverDepth, OverAndDepth, Pass}
 use Rattle.bench.specs.declared.Report.{Report}
-use Rattle.bench.specs.declared.Reported.{Reported}
-use Rattle.bench.specs.declared.Reported.TheVariants.{Given, NotGiven}
-use Rattle.bench.specs.declared.Edit.{Edit}
 use Rattle.bench.specs.State.{State, Present, nothing, present, verdict_of}
+use Rattle.bench.specs.Calls.{Edit}
 use Rattle.text.specs.Numbers.{hex_text, labelled, numbered, numbers_text}
 use Rattle.listing.specs.Printed.{new_line, refused_name, refused_text, placed_text, counts_text, lines_text, lines_to}
 use Rattle.talk.specs.Words.{opened_text, report_name, xor_name, nonlinear_name, not_name, depth_name, and_depth_name, pass_name, wrong_name, over_gates_name, over_depth_name, over_and_depth_name, reworked_name, read_name, held_name, distance_name, none_name}
@@ -47,18 +41,14 @@ report_text r =
     ++ verdict_text r.verdict ++ new_line
 
 -- a report, or `refused N`
-abbrev pub reported_text : Reported → List ℕ
-reported_text (Given r) = report_text r
-reported_text (NotGiven w) = refused_text w
+abbrev pub reported_text : Result Report Refusal → List ℕ
+reported_text (Ok r) = report_text r
+reported_text (Err w) = refused_text w
 
--- a text where a call is accepted, or `refused N`
-abbrev pub accepted_text : Answer → List ℕ → List ℕ
-accepted_text Done s = s
-accepted_text (Refused w) s = refused_text w
-
--- `opened`
+-- `opened`, or `refused N`
 abbrev pub open_text : Answer → List ℕ
-open_text a = accepted_text a opened_text
+open_text (Ok u) = opened_text
+open_text (Err w) = refused_text w
 
 -- `NAME X LINE LINE ..`: a number, and lines after it
 unfoldable pub listed_text : List ℕ → ℕ → List ℕ → List ℕ
@@ -70,7 +60,8 @@ reworked_text count lines = listed_text reworked_name count (take count lines)
 
 -- what an edit answers, or `refused N`
 abbrev pub edit_text : Edit → List ℕ
-edit_text e = accepted_text e.answer (reworked_text e.count e.lines)
+edit_text (Ok r) = reworked_text r.count r.lines
+edit_text (Err w) = refused_text w
 
 -- `stored COUNT HEX`, `built COUNT HEX` and `read COUNT HEX`, by the first word
 unfoldable pub hex_line : List ℕ → ℕ → List ℕ → List ℕ
@@ -78,16 +69,16 @@ hex_line name count bytes = labelled name count ++ (32 ∷ []) ++ hex_text bytes
 
 -- how many bytes were written, and which, or `refused N`
 abbrev pub written_text : List ℕ → Writing → List ℕ → List ℕ
-written_text name (Written count) bytes = hex_line name count bytes
-written_text name (NotWritten w) bytes = refused_text w
+written_text name (Ok count) bytes = hex_line name count bytes
+written_text name (Err w) bytes = refused_text w
 
 -- `read COUNT HEX`, of a file whose circuit has these stored bytes; `refused 15 PLACE`, `refused 16 PLACE` or `refused N`
 abbrev pub drawn_text : Drawn → List ℕ → List ℕ
-drawn_text (Stored count) bytes = hex_line read_name count bytes
-drawn_text (BadText place) bytes = placed_text 15 place ++ new_line
-drawn_text (BadName place) bytes = placed_text 16 place ++ new_line
-drawn_text NoOutputs bytes = labelled refused_name 17 ++ new_line
-drawn_text (NotStored w) bytes = refused_text w
+drawn_text (Ok count) bytes = hex_line read_name count bytes
+drawn_text (Err (BadText place)) bytes = placed_text 15 place ++ new_line
+drawn_text (Err (BadName place)) bytes = placed_text 16 place ++ new_line
+drawn_text (Err NoOutputs) bytes = labelled refused_name 17 ++ new_line
+drawn_text (Err (NotStored w)) bytes = refused_text w
 
 -- `distance X LINE LINE ..`: so many gates, over these lines
 abbrev pub gates_text : ℕ → List ℕ → List ℕ
@@ -98,24 +89,25 @@ abbrev pub no_gates_text : List ℕ
 no_gates_text = distance_name ++ none_name ++ new_line
 
 -- a distance with its lines, `distance none` or `refused N`
-abbrev pub distance_text : Distance → List ℕ → List ℕ
-distance_text (Gates x) lines = gates_text x lines
-distance_text Never lines = no_gates_text
-distance_text (NotAsked w) lines = labelled refused_name (query_refusal_no w) ++ new_line
+abbrev pub distance_text : Result (Option ℕ) QueryRefusal → List ℕ → List ℕ
+distance_text (Ok (Some x)) lines = gates_text x lines
+distance_text (Ok None) lines = no_gates_text
+distance_text (Err w) lines = labelled refused_name (query_refusal_no w) ++ new_line
+
+-- a distance with its lines, or `distance none`
+abbrev pub gap_text : Option Found → List ℕ
+gap_text (Some f) = gates_text f.gates (take f.count f.lines)
+gap_text None = no_gates_text
 
 -- what a distance query answers
-abbrev pub found_text : Found → List ℕ
-found_text f = distance_text f.answer (take f.count f.lines)
+abbrev pub found_text : Result (Option Found) QueryRefusal → List ℕ
+found_text (Ok r) = gap_text r
+found_text (Err w) = labelled refused_name (query_refusal_no w) ++ new_line
 
--- the same for a hint, whose lines are those of the open circuit
-abbrev pub hint_text : HintAnswer → List ℕ → List ℕ
-hint_text (HintGates x) lines = gates_text x lines
-hint_text HintNever lines = no_gates_text
-hint_text (HintRefused w) lines = refused_text w
-
--- what a hint answers
+-- what a hint answers, whose lines are those of the open circuit
 abbrev pub hinted_text : Hinted → List ℕ
-hinted_text h = hint_text h.answer (take h.count h.lines)
+hinted_text (Ok r) = gap_text r
+hinted_text (Err w) = refused_text w
 
 -- ---- held
 

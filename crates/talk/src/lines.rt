@@ -1,20 +1,18 @@
 // The answers of one line: each is put first in the room.
-ghost use Rattle.std.specs.Prelude.{◌+◌, ◌≤◌, min, length, take, ◌++◌};
+ghost use Rattle.std.specs.Prelude.{Err, [], ◌+◌, ◌≤◌, min, length, take, ◌++◌};
 ghost use Rattle.circuit.specs.Sizes.{most_lines};
 ghost use Rattle.text.specs.Numbers.{labelled};
 ghost use Rattle.text.specs.Putting.{Put};
 ghost use Rattle.listing.specs.Printed.{new_line, refused_text, placed_text};
-ghost use Rattle.talk.specs.Texts.{verdict_text, tally_text, report_text, reported_text, open_text, listed_text, reworked_text, edit_text, hex_line, gates_text, found_text, hinted_text};
+ghost use Rattle.talk.specs.Texts.{verdict_text, tally_text, report_text, reported_text, open_text, listed_text, reworked_text, edit_text, hex_line, drawn_text, gates_text, gap_text, found_text, hinted_text};
 ghost use Rattle.talk.specs.Saying.{Said, stored_most, written_in, drawn_in};
 
 use crate::{OUT, STORED};
-use bench::{Edit, Report, Reported, Verdict};
-use circuit::{Answer, INPUTS, LINES, Refusal, Tally, wide};
-use distance::{Found, Lines};
-use drawing::{BAD_NAME, BAD_TEXT, Drawn, NO_OUTPUTS};
-use hint::Hinted;
-use stored::Writing;
-use text::{at_most, put_labelled};
+use bench::{Edit, Report, Reworked, Verdict};
+use circuit::{INPUTS, LINES, Refusal, Tally};
+use distance::Found;
+use drawing::{BAD_NAME, BAD_TEXT, NO_OUTPUTS};
+use text::put_labelled;
 
 // A fixed line.
 pub(crate) fn say(out: &mut [u8; OUT], line: &[u8]) -> usize
@@ -65,33 +63,31 @@ fn put_tally(room: &mut [u8], gates: usize, counts: Tally) -> usize
 pub(crate) fn say_report(out: &mut [u8; OUT], r: Report) -> usize
     ensures { Said out.old out.new result (report_text r) }
 {
-    let counts = r.counts;
-    let verdict = r.verdict;
-    let counted = put_tally(out, r.gates, counts);
-    let depth = put_labelled(out, counted, b" depth ", wide(r.depth));
-    let ands = put_labelled(out, depth, b" anddepth ", wide(r.and_depth));
+    let counted = put_tally(out, r.gates, r.counts);
+    let depth = put_labelled(out, counted, b" depth ", usize::from(r.depth));
+    let ands = put_labelled(out, depth, b" anddepth ", usize::from(r.and_depth));
     let space = text::put(out, ands, b" ");
-    let judged = put_verdict(out, space, verdict);
+    let judged = put_verdict(out, space, r.verdict);
     text::put(out, judged, b"\n")
 }
 
 // What a report answers.
-pub(crate) fn say_reported(out: &mut [u8; OUT], r: Reported) -> usize
+pub(crate) fn say_reported(out: &mut [u8; OUT], r: Result<Report, Refusal>) -> usize
     ensures { Said out.old out.new result (reported_text r) }
 {
     match r {
-        Reported::Given(report) => say_report(out, report),
-        Reported::NotGiven(why) => say_refused(out, why),
+        Ok(report) => say_report(out, report),
+        Err(why) => say_refused(out, why),
     }
 }
 
 // What an open answers.
-pub(crate) fn say_opened(out: &mut [u8; OUT], answer: Answer) -> usize
+pub(crate) fn say_opened(out: &mut [u8; OUT], answer: Result<(), Refusal>) -> usize
     ensures { Said out.old out.new result (open_text answer) }
 {
     match answer {
-        Answer::Done => say(out, b"opened\n"),
-        Answer::Refused(why) => say_refused(out, why),
+        Ok(()) => say(out, b"opened\n"),
+        Err(why) => say_refused(out, why),
     }
 }
 
@@ -106,32 +102,30 @@ fn say_listed(out: &mut [u8; OUT], name: &[u8], x: usize, lines: &[u16]) -> usiz
 }
 
 // `reworked COUNT LINE LINE ..`. No edit reworks more lines than there may be; the test keeps to the array on a bench that no calls yield.
-fn say_reworked(out: &mut [u8; OUT], count: usize, lines: [u16; LINES]) -> usize
-    ensures { Said out.old out.new result (reworked_text count lines) }
+fn say_reworked(out: &mut [u8; OUT], r: Reworked) -> usize
+    ensures { Said out.old out.new result (reworked_text r.count r.lines) }
 {
-    let shown = at_most(count, LINES);
-    say_listed(out, b"reworked ", count, &lines[..shown])
+    let shown = r.count.min(LINES);
+    say_listed(out, b"reworked ", r.count, &r.lines[..shown])
 }
 
 // What an edit answers.
 pub(crate) fn say_edit(out: &mut [u8; OUT], e: Edit) -> usize
     ensures { Said out.old out.new result (edit_text e) }
 {
-    let answer = e.answer;
-    let lines = e.lines;
-    match answer {
-        Answer::Done => say_reworked(out, e.count, lines),
-        Answer::Refused(why) => say_refused(out, why),
+    match e {
+        Ok(reworked) => say_reworked(out, reworked),
+        Err(why) => say_refused(out, why),
     }
 }
 
 // `stored COUNT HEX`, `built COUNT HEX` or `read COUNT HEX`, of what stands first in a room. No stored form has more than 1,341 bytes; the
 // test keeps to the answer's room on a bench that no calls yield.
-fn say_bytes(out: &mut [u8; OUT], name: &[u8], count: usize, room: &[u8]) -> usize
-    requires { (length name.now ≤ 64) × (stored_most ≤ length room.now) }
+fn say_bytes(out: &mut [u8; OUT], name: &[u8], count: usize, room: &[u8; STORED]) -> usize
+    requires { length name.now ≤ 64 }
     ensures { Said out.old out.new result (hex_line name.now count (take (min count stored_most) room.now)) }
 {
-    let shown = at_most(count, STORED);
+    let shown = count.min(STORED);
     let counted = put_labelled(out, 0, name, count);
     let start = text::put(out, counted, b" ");
     let end = text::put_hex(out, start, &room[..shown]);
@@ -139,13 +133,18 @@ fn say_bytes(out: &mut [u8; OUT], name: &[u8], count: usize, room: &[u8]) -> usi
 }
 
 // What was written first in a room, or why nothing was.
-pub(crate) fn say_written(out: &mut [u8; OUT], name: &[u8], writing: Writing, room: &[u8]) -> usize
-    requires { (length name.now ≤ 64) × (stored_most ≤ length room.now) }
+pub(crate) fn say_written(
+    out: &mut [u8; OUT],
+    name: &[u8],
+    writing: Result<usize, Refusal>,
+    room: &[u8; STORED],
+) -> usize
+    requires { length name.now ≤ 64 }
     ensures { Said out.old out.new result (written_in name.now writing room.now) }
 {
     match writing {
-        Writing::Written(count) => say_bytes(out, name, count, room),
-        Writing::NotWritten(why) => say_refused(out, why),
+        Ok(count) => say_bytes(out, name, count, room),
+        Err(why) => say_refused(out, why),
     }
 }
 
@@ -166,52 +165,74 @@ fn say_placed(out: &mut [u8; OUT], number: usize, place: usize) -> usize
     text::put(out, end, b"\n")
 }
 
+// Why nothing was read of a file.
+fn say_unread(out: &mut [u8; OUT], why: drawing::Refusal) -> usize
+    ensures { Said out.old out.new result (drawn_text (Err why) []) }
+{
+    match why {
+        drawing::Refusal::BadText(place) => say_placed(out, BAD_TEXT, place),
+        drawing::Refusal::BadName(place) => say_placed(out, BAD_NAME, place),
+        drawing::Refusal::NoOutputs => say_number(out, b"refused ", NO_OUTPUTS),
+        drawing::Refusal::NotStored(why) => say_refused(out, why),
+    }
+}
+
 // What was read of a file and stands first in a room, or why nothing was.
-pub(crate) fn say_drawn(out: &mut [u8; OUT], drawn: Drawn, room: &[u8]) -> usize
-    requires { stored_most ≤ length room.now }
+pub(crate) fn say_drawn(
+    out: &mut [u8; OUT],
+    drawn: Result<usize, drawing::Refusal>,
+    room: &[u8; STORED],
+) -> usize
     ensures { Said out.old out.new result (drawn_in drawn room.now) }
 {
     match drawn {
-        Drawn::Stored(count) => say_bytes(out, b"read ", count, room),
-        Drawn::BadText(place) => say_placed(out, BAD_TEXT, place),
-        Drawn::BadName(place) => say_placed(out, BAD_NAME, place),
-        Drawn::NoOutputs => say_number(out, b"refused ", NO_OUTPUTS),
-        Drawn::NotStored(why) => say_refused(out, why),
+        Ok(count) => say_bytes(out, b"read ", count, room),
+        Err(why) => say_unread(out, why),
     }
 }
 
 // `distance X LINE LINE ..`. No distance has more lines than there may be inputs; the test keeps to the array on a bench that no calls yield.
-fn say_gates(out: &mut [u8; OUT], gates: u8, count: usize, lines: Lines) -> usize
-    ensures { Said out.old out.new result (gates_text gates (take count lines)) }
+fn say_gates(out: &mut [u8; OUT], found: Found) -> usize
+    ensures { Said out.old out.new result (gates_text found.gates (take found.count found.lines)) }
 {
-    let shown = at_most(count, INPUTS);
-    say_listed(out, b"distance ", wide(gates), &lines[..shown])
+    let shown = found.count.min(INPUTS);
+    say_listed(
+        out,
+        b"distance ",
+        usize::from(found.gates),
+        &found.lines[..shown],
+    )
+}
+
+// A distance, or that there is none.
+fn say_gap(out: &mut [u8; OUT], gap: Option<Found>) -> usize
+    ensures { Said out.old out.new result (gap_text gap) }
+{
+    match gap {
+        Some(found) => say_gates(out, found),
+        None => say(out, b"distance none\n"),
+    }
 }
 
 // What a distance query answers.
-pub(crate) fn say_found(out: &mut [u8; OUT], found: Found) -> usize
+pub(crate) fn say_found(
+    out: &mut [u8; OUT],
+    found: Result<Option<Found>, distance::Refusal>,
+) -> usize
     ensures { Said out.old out.new result (found_text found) }
 {
-    let answer = found.answer;
-    let lines = found.lines;
-    match answer {
-        distance::Answer::Gates(gates) => say_gates(out, gates, found.count, lines),
-        distance::Answer::Never => say(out, b"distance none\n"),
-        distance::Answer::Refused(why) => {
-            say_number(out, b"refused ", wide(distance::refusal_no(why)))
-        }
+    match found {
+        Ok(gap) => say_gap(out, gap),
+        Err(why) => say_number(out, b"refused ", usize::from(distance::refusal_no(why))),
     }
 }
 
 // What a hint answers.
-pub(crate) fn say_hint(out: &mut [u8; OUT], hinted: Hinted) -> usize
+pub(crate) fn say_hint(out: &mut [u8; OUT], hinted: Result<Option<Found>, Refusal>) -> usize
     ensures { Said out.old out.new result (hinted_text hinted) }
 {
-    let answer = hinted.answer;
-    let lines = hinted.lines;
-    match answer {
-        hint::Answer::Gates(gates) => say_gates(out, gates, hinted.count, lines),
-        hint::Answer::Never => say(out, b"distance none\n"),
-        hint::Answer::Refused(why) => say_refused(out, why),
+    match hinted {
+        Ok(gap) => say_gap(out, gap),
+        Err(why) => say_refused(out, why),
     }
 }

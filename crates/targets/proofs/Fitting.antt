@@ -4,18 +4,20 @@ use mathlib.Core.Bool.{Bool, true, false, ◌&&◌}
 use mathlib.Core.List.{List, [], ◌∷◌}
 use Prim.Native.Nat.{ℕ, zero, suc, ◌≤◌, ◌<◌, ◌+◌, ◌*◌, ◌%◌, ◌^◌}
 use native.Mathlib.Omega.{arith}
-use native.Mathlib.Numerals.{add-one}
 use native.Mathlib.Nat.{one-mul}
-use borrow.Author.Tests.{lt-ltb, le-ltb, le-leb, lt-leb, eq-eqb, ne_eqb}
-use lib.Dec.{ltb, eqb, lit<}
-use lib.ListN.{length, get_or, set, drop, drop_of_length-le}
+use borrow.Author.Tests.{lt-ltb, eq-eqb, ne_eqb}
+use lib.Dec.{leb, ltb, eqb, lit<}
+use lib.ListN.{length, get_or, set}
+use Rattle.std.specs.List.{list_all, range_with_len}
+use Rattle.std.proofs.lemmas.Bool.{false≢true}
+use Rattle.std.proofs.lemmas.List.Folds.{list_all-map}
+use Rattle.std.proofs.lemmas.List.FromFn.{fill_by_all}
 use lib.Pow.{pow_mono, shl_exact}
-use lib.Seq.{drop-cons}
 use Rattle.circuit.specs.Rules.{all_of}
-use Rattle.circuit.specs.Rows.{row}
+use Rattle.circuit.specs.Rows.{row, no_row}
 use Rattle.circuit.proofs.Shapes.{both}
 use Rattle.targets.specs.Target.{row_is_sound, entry_fits, target_fits, mask_bytes, rows_in, brought, brought_fits}
-use Rattle.targets.proofs.Bytes.{rows_many}
+use Rattle.targets.proofs.Bytes.{rows_many, row_read}
 
 -- `1 << n`
 pub shift_is : (n : ℕ) → n < 64 → (1 * 2 ^ n) % 2 ^ 64 ≡ 2 ^ n
@@ -36,49 +38,19 @@ module _ (n x : ℕ) where
     pub power_past : false ≡ eqb x (2 ^ n)
     power_past = sym (ne_eqb x (2 ^ n) (λ e. omega (arith, pow_mono {i = 64} {j = n} h)))
 
--- a test and one that holds, or does not
-and-true : (t : Bool) → (t && true) ≡ t
-and-true true = refl
-and-true false = refl
+-- each of them, as the library has it
+pub all_as : {A : Type 0} (p : A → Bool) (l : List A) → list_all p l ≡ all_of p l
+unfolding all_of
+all_as p [] = refl
+all_as p (x ∷ l) = ap (λ (t : Bool). p x && t) (all_as p l)
 
-and-false : (t : Bool) → (t && false) ≡ false
-and-false true = refl
-and-false false = refl
-
--- a row, by its constant
-module _ (n mask constant : ℕ) where
-  pub row-bit : constant < 2 → ltb mask (2 ^ n) ≡ row_is_sound n (row mask constant)
-  unfolding row_is_sound
-  row-bit h = sym (ap (λ (t : Bool). ltb mask (2 ^ n) && t) (lt-ltb constant 2 h) ∙ and-true (ltb mask (2 ^ n)))
-
-  pub row_no_bit : 2 ≤ constant → false ≡ row_is_sound n (row mask constant)
-  unfolding row_is_sound
-  row_no_bit h = sym (ap (λ (t : Bool). ltb mask (2 ^ n) && t) (le-ltb constant 2 h) ∙ and-false (ltb mask (2 ^ n)))
-
--- an entry, by the constant beside it
-module _ (m value constant : ℕ) where
-  pub entry_alone : constant ≡ 0 → ltb value (2 ^ m) ≡ (entry_fits m value && eqb constant 0)
-  unfolding entry_fits
-  entry_alone h = sym (ap (λ (t : Bool). ltb value (2 ^ m) && t) (eq-eqb constant 0 h) ∙ and-true (ltb value (2 ^ m)))
-
-  pub entry_beside : (constant ≡ 0 → ⊥) → false ≡ (entry_fits m value && eqb constant 0)
-  entry_beside h = sym (ap (λ (t : Bool). entry_fits m value && t) (ne_eqb constant 0 h) ∙ and-false (entry_fits m value))
-
--- each from i on; one that is not there is d
-module _ {A : Type 0} (d : A) (p : A → Bool) (l : List A) (i : ℕ) where
-  all_at : i < length l → all_of p (drop i l) ≡ p (get_or l i d) && all_of p (drop (i + 1) l)
-  unfolding all_of
-  all_at h = ap (all_of p) (drop-cons l i d h) ∙ ap (λ (k : ℕ). p (get_or l i d) && all_of p (drop k l)) (sym (add-one i))
-
-  pub all_stop : i < length l → p (get_or l i d) ≡ false → all_of p (drop i l) ≡ false
-  all_stop h e = all_at h ∙ ap (λ (t : Bool). t && all_of p (drop (i + 1) l)) e
-
-  pub all_next : i < length l → p (get_or l i d) ≡ true → all_of p (drop i l) ≡ all_of p (drop (i + 1) l)
-  all_next h e = all_at h ∙ ap (λ (t : Bool). t && all_of p (drop (i + 1) l)) e
-
-  pub all_end : length l ≤ i → all_of p (drop i l) ≡ true
-  unfolding all_of
-  all_end h = ap (all_of p) (drop_of_length-le l h)
+-- each row, by its number
+pub rows_as : (n m : ℕ) (l : List ℕ) → list_all (λ (j : ℕ). row_is_sound n (row (get_or l j 0) (get_or l (m + j) 0))) (range_with_len 0 m) ≡ all_of (row_is_sound n) (rows_in n m l)
+rows_as n m l =
+    let row_of = λ (j : ℕ). row (get_or l j 0) (get_or l (m + j) 0) in
+    sym (list_all-map (row_is_sound n) row_of (range_with_len 0 m))
+    ∙ ap (list_all (row_is_sound n)) (sym (fill_by_all row_of (rows_in n m l) m no_row (rows_many n m l) (row_read n m l)))
+    ∙ all_as (row_is_sound n) (rows_in n m l)
 
 -- the rule of a matrix
 module _ (only : Bool) (n m : ℕ) (l : List ℕ) (e : only ≡ true) where
@@ -90,20 +62,24 @@ module _ (only : Bool) (n m : ℕ) (l : List ℕ) (e : only ≡ true) where
   unfolding brought_fits
   rows_unfit h = rw e (simp (ne_eqb (length l) (m * mask_bytes n + m) (λ z. h (omega arith))))
 
+-- three tests, the first two of which are asked as one
+three_left : (s t u : Bool) → (s && t) ≡ true → u ≡ (s && (t && u))
+three_left true t u h = sym (ap (λ (b : Bool). b && u) h)
+three_left false t u h = absurd (false≢true h)
+
+three_stop : (s t u : Bool) → (s && t) ≡ false → false ≡ (s && (t && u))
+three_stop true t u h = sym (ap (λ (b : Bool). b && u) h)
+three_stop false t u h = refl
+
 -- the rule of a table
 module _ (only : Bool) (n m : ℕ) (l : List ℕ) (e : only ≡ false) where
-  pub too_wide : 8 < m → false ≡ brought_fits n m (brought only l)
+  pub entries_fit : (leb m 8 && eqb (length l) (2 ^ n)) ≡ true → all_of (entry_fits m) l ≡ brought_fits n m (brought only l)
   unfolding brought_fits target_fits
-  too_wide h = rw e (simp (lt-leb m 8 h))
+  entries_fit h = rw e (three_left (leb m 8) (eqb (length l) (2 ^ n)) (all_of (entry_fits m) l) h)
 
-  module _ (h : m ≤ 8) where
-    pub entries_fit : eqb (length l) (2 ^ n) ≡ true → all_of (entry_fits m) l ≡ brought_fits n m (brought only l)
-    unfolding brought_fits target_fits
-    entries_fit k = rw e (simp (le-leb m 8 h, k))
-
-    pub entries_unfit : eqb (length l) (2 ^ n) ≡ false → false ≡ brought_fits n m (brought only l)
-    unfolding brought_fits target_fits
-    entries_unfit k = rw e (simp (le-leb m 8 h, k))
+  pub entries_unfit : (leb m 8 && eqb (length l) (2 ^ n)) ≡ false → false ≡ brought_fits n m (brought only l)
+  unfolding brought_fits target_fits
+  entries_unfit h = rw e (three_stop (leb m 8) (eqb (length l) (2 ^ n)) (all_of (entry_fits m) l) h)
 
 -- one changed for one that passes
 pub all_set : {A : Type 0} (p : A → Bool) (l : List A) (i : ℕ) (v : A) → all_of p l ≡ true → p v ≡ true → all_of p (set l i v) ≡ true

@@ -7,7 +7,7 @@ ghost use Rattle.circuit.specs.Rows.{row};
 ghost use Rattle.targets.specs.Target.{target_by};
 ghost use Rattle.targets.specs.Wanted.{packed, mask_words, row_words, column_words, wanted_words, wanted_in};
 
-use circuit::{INPUTS, NO_WORDS, OUTPUTS, VALUES, Words, gate, wide};
+use circuit::{INPUTS, NO_WORDS, OUTPUTS, VALUES, Words, gate};
 
 // The inputs in words: bit b of word w of input i is bit i of 64 w + b.
 const INPUT_WORDS: [Words; INPUTS] = [
@@ -73,12 +73,10 @@ fn mask_words(mask: u8) -> Words
     ensures { result ≡ mask_words most_inputs mask }
 {
     let mut w = NO_WORDS;
-    let mut i: usize = 0;
-    while i < INPUTS {
+    for i in 0..INPUTS {
         if (mask >> i) % 2 == 1 {
             w = gate::eval_gate(0, w, input_words(i));
         }
-        i += 1;
     }
     w
 }
@@ -102,10 +100,8 @@ fn column_word(table: &[u8; VALUES], from: usize, j: usize) -> u64
     ensures { result ≡ packed (λ b. bit j (get_or table.now (from + b) 0)) 64 }
 {
     let mut w: u64 = 0;
-    let mut b: usize = 64;
-    while 0 < b {
-        b -= 1;
-        w = w + w + (((wide(table[from + b]) >> j) % 2) as u64);
+    for b in (0..64).rev() {
+        w = w + w + (u64::from(table[from + b]) >> j) % 2;
     }
     w
 }
@@ -139,12 +135,10 @@ fn wanted_by(only: bool, target: &[u8; VALUES], m: usize, j: usize) -> Words
 pub fn wanted_words(only: bool, target: &[u8; VALUES], m: usize) -> [Words; OUTPUTS]
     ensures { result ≡ wanted_in only target.now m }
 {
-    let count = if m < OUTPUTS { m } else { OUTPUTS };
+    let count = m.min(OUTPUTS);
     let mut wanted = [NO_WORDS; OUTPUTS];
-    let mut j: usize = 0;
-    while j < count {
+    for j in 0..count {
         wanted[j] = wanted_by(only, target, count, j);
-        j += 1;
     }
     wanted
 }

@@ -8,93 +8,61 @@ use native.Mathlib.Numerals.{add-one}
 use native.Mathlib.Nat.{pow-suc, one-le-pow, pow-le-pow_right}
 use native.Mathlib.Decide.{dec_lt}
 use lib.Dec.{ltb}
-use borrow.Author.Tests.{ltb-true, lt-ltb, le-ltb, le-leb, lt-leb}
+use borrow.Author.Tests.{ltb-true, lt-ltb, le-ltb}
 use lib.ListN.{length, get_or, take, drop, drop_of_length-le, length-append}
 use lib.Seq.{drop-cons, take-suc}
 use Rattle.io.specs.Digits.{last_digits, IsDigitCount}
-use Rattle.text.specs.declared.Number.{Number}
-use Rattle.text.specs.declared.Number.TheVariants.{Value, Not}
-use Rattle.text.specs.Numbers.{is_digit, num_from, number_in, nibble_of, all_hex, hex_bytes, bytes_said, hex_text, glyph_of, dec_text, decimal_text, numbered, numbers_text}
-use Rattle.text.proofs.Places.{both}
+use Rattle.std.specs.Prelude.{Option, Some, None, SomeIff, IsSome}
+use Rattle.std.proofs.Common.{rules}
+use Rattle.std.specs.List.{list_all}
+use Rattle.text.specs.Numbers.{is_digit, num_from, number_in, nibble_of, is_hex_digit, all_hex, hex_bytes, bytes_said, hex_text, glyph_of, dec_text, decimal_text, numbered, numbers_text}
+use Rattle.text.proofs.Places.{both, and_cond}
+
+-- a test that is not true is false
+not_true : {t : Bool} → (t ≡ true → ⊥) → t ≡ false
+not_true {t = true} h = absurd (h refl)
+not_true {t = false} h = refl
 
 -- ---- reading a decimal number
 
-module _ (acc : ℕ) (s : List ℕ) (i x : ℕ) (h : i < length s) (e : get_or s i 0 ≡ x) where
-  -- a byte below `0`
-  pub num_low : x < 48 → Not ≡ num_from acc (drop i s)
+module _ (acc : ℕ) (s : List ℕ) (i : ℕ) (h : i < length s) where
+  -- a byte that is no digit
+  pub num_other : (is_digit (get_or s i 0) ≡ true → ⊥) → num_from acc (drop i s) ≡ None
   unfolding num_from
-  num_low l = rw (drop-cons s i 0, e, lt-leb _ _ l)
-
-  -- a byte above `9`
-  pub num_high : 57 < x → Not ≡ num_from acc (drop i s)
-  unfolding num_from
-  num_high l = rw (drop-cons s i 0, e, le-leb 48 x (omega arith), lt-leb _ _ l)
+  num_other n = rw (drop-cons s i 0, not_true n)
 
   -- a digit
-  pub num_step : 48 ≤ x → x ≤ 57 → num_from acc (drop i s) ≡ num_from (acc * 10 + (x - 48)) (drop (i + 1) s)
+  pub num_step : is_digit (get_or s i 0) ≡ true → num_from acc (drop i s) ≡ num_from (acc * 10 + (get_or s i 0 - 48)) (drop (i + 1) s)
   unfolding num_from
-  num_step l m = rw (add-one, drop-cons s i 0, e, le-leb _ _ l, le-leb _ _ m)
+  num_step e = rw (add-one, drop-cons s i 0, e)
 
 -- no number either way
-cond_not : (t : Bool) (n : Number) → n ≡ Not → cond t n Not ≡ Not
+cond_not : (t : Bool) (n : Option ℕ) → n ≡ None → cond t n None ≡ None
 cond_not true n e = e
 cond_not false n e = refl
 
 -- a number that is too large stays so
-pub num_big : (acc : ℕ) (s : List ℕ) → 2 ^ 64 ≤ acc → num_from acc s ≡ Not
+pub num_big : (acc : ℕ) (s : List ℕ) → 2 ^ 64 ≤ acc → num_from acc s ≡ None
 unfolding num_from
 num_big acc [] h = rw (le-ltb acc (2 ^ 64) h)
 num_big acc (x ∷ xs) h = cond_not (is_digit x) (num_from (acc * 10 + (x - 48)) xs) (num_big (acc * 10 + (x - 48)) xs (omega arith))
 
 -- no digit is left
-pub num_end : (acc : ℕ) (s : List ℕ) (i : ℕ) → length s ≤ i → acc < 2 ^ 64 → Value acc ≡ num_from acc (drop i s)
+pub num_end : (acc : ℕ) (s : List ℕ) (i : ℕ) → length s ≤ i → acc < 2 ^ 64 → Some acc ≡ num_from acc (drop i s)
 unfolding num_from
 num_end acc s i h l = rw (drop_of_length-le s h, lt-ltb acc (2 ^ 64) l)
 
 -- a word with a digit or more
-pub num_is : (s : List ℕ) {r : Number} → 0 < length s → r ≡ num_from 0 s → r ≡ number_in s
+pub num_is : (s : List ℕ) {r : Option ℕ} → 0 < length s → r ≡ num_from 0 s → r ≡ number_in s
 num_is s h e = rw (lt-ltb _ _ h) e
 
 -- ---- hex
 
--- the value of a digit by where it stands among the bytes: before `0`, `0` to `9`, before `A`, `A` to `F`, before `a`, `a` to `f`, after `f`
-module _ (x : ℕ) where
-  pub nib_1 : x < 48 → 16 ≡ nibble_of x
-  nib_1 h = simp (lt-leb _ _ h)
-
-  pub nib_2 : 48 ≤ x → x ≤ 57 → x - 48 ≡ nibble_of x
-  nib_2 h k = simp (le-leb _ _ h, le-leb _ _ k)
-
-  pub nib_3 : 57 < x → x < 65 → 16 ≡ nibble_of x
-  nib_3 h k = simp (le-leb 48 x (omega arith), lt-leb _ _ h, lt-leb _ _ k)
-
-  pub nib_4 : 65 ≤ x → x ≤ 70 → x - 55 ≡ nibble_of x
-  nib_4 h k = simp (le-leb 48 x (omega arith), lt-leb x 57 (omega arith), le-leb _ _ h, le-leb _ _ k)
-
-  pub nib_5 : 70 < x → x < 97 → 16 ≡ nibble_of x
-  nib_5 h k = simp (le-leb 48 x (omega arith), lt-leb x 57 (omega arith), le-leb 65 x (omega arith), lt-leb _ _ h, lt-leb _ _ k)
-
-  pub nib_6 : 97 ≤ x → x ≤ 102 → x - 87 ≡ nibble_of x
-  nib_6 h k = simp (le-leb 48 x (omega arith), lt-leb x 57 (omega arith), le-leb 65 x (omega arith), lt-leb x 70 (omega arith), le-leb _ _ h, le-leb _ _ k)
-
-  pub nib_7 : 102 < x → 16 ≡ nibble_of x
-  nib_7 h = simp (le-leb 48 x (omega arith), lt-leb x 57 (omega arith), le-leb 65 x (omega arith), lt-leb x 70 (omega arith), le-leb 97 x (omega arith), lt-leb _ _ h)
-
-module _ (s : List ℕ) (i d : ℕ) (h : i < length s) (e : d ≡ nibble_of (get_or s i 0)) where
-  -- a byte that is no hexadecimal digit
-  pub hex_bad : 16 ≤ d → false ≡ all_hex (drop i s)
-  unfolding all_hex
-  hex_bad l = rw (drop-cons s i 0, ← e, le-ltb d 16 l)
-
-  -- a byte that is one
-  pub hex_good : d < 16 → all_hex (drop i s) ≡ all_hex (drop (i + 1) s)
-  unfolding all_hex
-  hex_good l = rw (add-one, drop-cons s i 0, ← e, lt-ltb d 16 l)
-
--- no byte is left
-pub hex_end : (s : List ℕ) (i : ℕ) → length s ≤ i → true ≡ all_hex (drop i s)
+-- whether every byte is a digit
+pub all_as : (s : List ℕ) → list_all is_hex_digit s ≡ all_hex s
 unfolding all_hex
-hex_end s i h = rw (drop_of_length-le s h)
+all_as [] = refl
+all_as (x ∷ xs) = rw (all_as xs) (and_cond (is_hex_digit x) (all_hex xs))
 
 -- byte i of digits all of which are hexadecimal
 pub all_digit : (s : List ℕ) (i : ℕ) → all_hex s ≡ true → i < length s → nibble_of (get_or s i 0) < 16
@@ -102,6 +70,11 @@ unfolding all_hex
 all_digit [] i e h = absurd (omega arith)
 all_digit (x ∷ xs) zero e h = ltb-true _ _ (both _ e).0
 all_digit (x ∷ xs) (suc i) e h = all_digit xs i (both (ltb (nibble_of x) 16) e).1 (omega arith)
+
+-- what `nibble` gives at a digit
+pub digit_some : (r : Option ℕ) (v : ℕ) → SomeIff r (v < 16) v → v < 16 → IsSome r
+digit_some None v h l = absurd (h l)
+digit_some (Some x) v h l = search rules
 
 -- digits all of which are hexadecimal
 pub bytes-said : (s : List ℕ) → all_hex s ≡ true → bytes_said s ≡ hex_bytes s

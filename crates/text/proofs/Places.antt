@@ -1,15 +1,16 @@
 -- Laws of the places in a line: bytes that pass a test, comparing, the end of a line, words. Assumes nothing.
 use mathlib.Core.Path.{◌≡◌, refl, ap, ◌∙◌, sym}
-use mathlib.Core.Bool.{Bool, true, false, cond, not}
+use mathlib.Core.Bool.{Bool, true, false, cond, not, ◌&&◌}
 use mathlib.Core.List.{List, [], ◌∷◌}
 use Prim.Native.Nat.{ℕ, suc, ◌+◌, ◌-◌, ◌≤◌, ◌<◌, max}
 use native.Mathlib.Omega.{arith}
 use native.Mathlib.Numerals.{add-one}
 use lib.Dec.{eqb}
-use borrow.Author.Tests.{eq-eqb, ne_eqb}
+use native.Mathlib.Decide.{dec_lt}
 use lib.ListN.{length, get_or, take, drop, drop_of_length-le, length-drop}
-use lib.Seq.{drop-cons, drop-drop, length-take-le}
-use Rattle.text.specs.Places.{leading, up_to, past, same_list, trim_len, skipped, head_word, tail_words, NextWord}
+use lib.Seq.{drop-cons, drop-drop, get_or-drop, length-take-le}
+use Rattle.std.specs.Prelude.{bytes_eq}
+use Rattle.text.specs.Places.{leading, up_to, past, same_list, skipped, head_word, tail_words, NextWord}
 
 -- two tests that passed
 pub both : (t : Bool) {u : Bool} → cond t u false ≡ true → (t ≡ true) × (u ≡ true)
@@ -45,22 +46,6 @@ run-le p (x ∷ xs) = by (p x) (run-le p xs) where
 
 -- ---- comparing
 
-module _ (a b : List ℕ) (i : ℕ) (h : i < length a) (k : i < length b) where
-  -- two bytes differ
-  pub same_not : (get_or a i 0 ≡ get_or b i 0 → ⊥) → false ≡ same_list (drop i a) (drop i b)
-  unfolding same_list
-  same_not e = rw (drop-cons a i 0, drop-cons b i 0, ne_eqb _ _ e)
-
-  -- two bytes are the same
-  pub same_next : get_or a i 0 ≡ get_or b i 0 → same_list (drop i a) (drop i b) ≡ same_list (drop (i + 1) a) (drop (i + 1) b)
-  unfolding same_list
-  same_next e = rw (add-one, drop-cons a i 0, drop-cons b i 0, eq-eqb _ _ e)
-
--- no byte is left of either
-pub same_end : (a b : List ℕ) (i : ℕ) → length a ≤ i → length b ≤ i → true ≡ same_list (drop i a) (drop i b)
-unfolding same_list
-same_end a b i h k = rw (drop_of_length-le a h, drop_of_length-le b k)
-
 -- texts that are the same are as long
 pub same_length : (a b : List ℕ) → same_list a b ≡ true → length a ≡ length b
 unfolding same_list
@@ -69,29 +54,43 @@ same_length [] (y ∷ ys) e = let z : ◌≡◌ {A = ℕ} 0 1 = cc in absurd (om
 same_length (x ∷ xs) [] e = let z : ◌≡◌ {A = ℕ} 0 1 = cc in absurd (omega arith)
 same_length (x ∷ xs) (y ∷ ys) e = ap suc (same_length xs ys (both (eqb x y) e).1)
 
--- a test that is not true is false
-false_of : (t : Bool) → (t ≡ true → ⊥) → false ≡ t
-false_of true h = absurd (h refl)
-false_of false h = refl
+-- two tests, as `&&` and as `cond` say
+pub and_cond : (t u : Bool) → (t && u) ≡ cond t u false
+and_cond true u = refl
+and_cond false u = refl
 
--- texts that are not as long are not the same
-pub unlike : (a b : List ℕ) → (length a ≡ length b → ⊥) → false ≡ same_list a b
-unlike a b h = false_of _ (λ e. h (same_length a b e))
+-- `==` of two texts
+pub same_as : (a b : List ℕ) → bytes_eq a b ≡ same_list a b
+unfolding same_list
+same_as [] [] = refl
+same_as [] (y ∷ ys) = refl
+same_as (x ∷ xs) [] = refl
+same_as (x ∷ xs) (y ∷ ys) = rw (same_as xs ys) (and_cond (eqb x y) (same_list xs ys))
 
 -- ---- lines and words
 
--- an empty line
-pub trim_none : (s : List ℕ) → length s < 1 → 0 ≡ trim_len s
-trim_none [] h = refl
-trim_none (x ∷ xs) h = absurd (omega arith)
+-- the first byte that does not pass a test does not pass it
+stops_at : (p : ℕ → Bool) (s : List ℕ) → leading p s < length s → p (get_or s (leading p s) 0) ≡ false
+unfolding leading
+stops_at p [] h = absurd (omega arith)
+stops_at p (x ∷ xs) h = by (p x) refl h (stops_at p xs) where
+  by : (t : Bool) → p x ≡ t → cond t (suc (leading p xs)) 0 < suc (length xs) → (leading p xs < length xs → p (get_or xs (leading p xs) 0) ≡ false)
+      → p (get_or (x ∷ xs) (cond t (suc (leading p xs)) 0) 0) ≡ false
+  by true e l f = f (omega arith)
+  by false e l f = e
 
--- a line with a CR at its end
-pub trim_cr : (s : List ℕ) → get_or s (length s - 1) 0 ≡ 13 → length s - 1 ≡ trim_len s
-trim_cr s e = simp (eq-eqb _ _ e)
-
--- a line with none
-pub trim_no : (s : List ℕ) → (get_or s (length s - 1) 0 ≡ 13 → ⊥) → length s ≡ trim_len s
-trim_no s e = simp (ne_eqb _ _ e)
+-- an empty word stands where the line ends, or past it
+pub none_left : (line : List ℕ) (at p q : ℕ) → p ≡ at + past 32 (drop at line) → q ≡ p + up_to 32 (drop p line) → q ≤ p → p ≡ max at (length line)
+none_left line at p q hp hq h = by (dec_lt p (length line)) where
+  by : Dec (p < length line) → p ≡ max at (length line)
+  by (yes l) =
+      let n = past 32 (drop at line) in
+      let e : eqb (get_or (drop at line) n 0) 32 ≡ false = stops_at (λ (x : ℕ). eqb x 32) (drop at line) (omega (arith, length-drop at line)) in
+      let f : eqb (get_or line p 0) 32 ≡ false =
+      ap (λ (k : ℕ). eqb k 32) (ap (λ (k : ℕ). get_or line k 0) hp ∙ sym (get_or-drop at line n 0)) ∙ e in
+      let g = run_next (λ (x : ℕ). not (eqb x 32)) line p l (ap not f) in
+      absurd (omega (arith, g))
+  by (no l) = omega (arith, l, run-le (λ (x : ℕ). eqb x 32) (drop at line), length-drop at line)
 
 -- what `skip` and `find` answer are the places of a word
 pub next_of : (line : List ℕ) (at p q : ℕ) → p ≡ at + past 32 (drop at line) → q ≡ p + up_to 32 (drop p line) → NextWord line at p q

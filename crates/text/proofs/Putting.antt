@@ -130,5 +130,9 @@ pub rest_next : (room₀ room : List ℕ) (i v : ℕ) → drop i room ≡ drop i
 rest_next room₀ room i v d = drop-set-lt (i + 1) room i v (omega arith) ∙ drop_more i room room₀ d
 
 -- all is moved
-pub front_done : (room₀ room : List ℕ) (from n : ℕ) → take n room ≡ take n (drop from room₀) → drop n room ≡ drop n room₀ → room ≡ fronted room₀ from n
-front_done room₀ room from n t d = sym (take-append-drop n room) ∙ (λ i. t i ++ d i)
+pub front_done : (room₀ room : List ℕ) (from i n : ℕ) → i ≡ n → take i room ≡ take i (drop from room₀) → drop i room ≡ drop i room₀ → room ≡ fronted room₀ from n
+front_done room₀ room from i n e t d = sym (take-append-drop i room) ∙ (λ j. t j ++ d j) ∙ ap (fronted room₀ from) e
+
+-- what is to be moved stands at the front already
+pub front_stays : (room : List ℕ) (from n : ℕ) → from ≡ 0 → room ≡ fronted room from n
+front_stays room from n e = sym (take-append-drop n room) ∙ ap (λ (k : ℕ). take n (drop k room) ++ drop n room) (sym e)

@@ -1,20 +1,18 @@
 -- Numbers in text: decimal and hexadecimal digits, read and written.
-use Rattle.std.specs.Prelude.{Bool, true, false, cond, List, [], ◌∷◌, ◌++◌, ℕ, zero, suc, ◌+◌, ◌-◌, ◌*◌, ◌/◌, ◌%◌, ◌^◌, leb, ltb, length}
-use Rattle.text.specs.declared.Number.{Number}
-use Rattle.text.specs.declared.Number.TheVariants.{Value, Not}
+use Rattle.std.specs.Prelude.{Bool, true, false, cond, List, [], ◌∷◌, ◌++◌, ℕ, zero, suc, ◌+◌, ◌-◌, ◌*◌, ◌/◌, ◌%◌, ◌^◌, leb, ltb, length, Option, Some, None}
 
 -- whether a byte is a decimal digit
 abbrev pub is_digit : ℕ → Bool
 is_digit x = cond (leb 48 x) (leb x 57) false
 
 -- the number that decimal digits say, after a number that earlier digits said
-unfoldable pub num_from : ℕ → List ℕ → Number
-num_from acc [] = cond (ltb acc (2 ^ 64)) (Value acc) Not
-num_from acc (x ∷ xs) = cond (is_digit x) (num_from (acc * 10 + (x - 48)) xs) Not
+unfoldable pub num_from : ℕ → List ℕ → Option ℕ
+num_from acc [] = cond (ltb acc (2 ^ 64)) (Some acc) None
+num_from acc (x ∷ xs) = cond (is_digit x) (num_from (acc * 10 + (x - 48)) xs) None
 
 -- the number that a word says: one digit or more, 0 to 2^64 - 1
-abbrev pub number_in : List ℕ → Number
-number_in s = cond (ltb 0 (length s)) (num_from 0 s) Not
+abbrev pub number_in : List ℕ → Option ℕ
+number_in s = cond (ltb 0 (length s)) (num_from 0 s) None
 
 -- the value of a hexadecimal digit, or 16
 abbrev pub nibble_of : ℕ → ℕ

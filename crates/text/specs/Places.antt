@@ -1,10 +1,14 @@
 -- Places in a line of text: where a byte stands, the words between spaces, where the line ends.
-use Rattle.std.specs.Prelude.{◌≡◌, Bool, true, false, cond, not, List, [], ◌∷◌, ℕ, suc, ◌-◌, ◌≤◌, max, eqb, length, get_or, take, drop}
+use Rattle.std.specs.Prelude.{◌≡◌, Bool, true, false, cond, not, List, [], ◌∷◌, ℕ, suc, ◌-◌, ◌<◌, ◌≤◌, max, eqb, length, get_or, take, drop}
 
 -- how many bytes at the start pass a test
 unfoldable pub leading : (ℕ → Bool) → List ℕ → ℕ
 leading p [] = 0
 leading p (x ∷ xs) = cond (p x) (suc (leading p xs)) 0
+
+-- what a closure may answer of a byte is what a test says of it
+abbrev pub IsTest : (ℕ → Bool → Type 0) → (ℕ → Bool) → Type 0
+IsTest answers test = (x : ℕ) (b : Bool) → x < 256 → answers x b → b ≡ test x
 
 -- how many bytes stand before the first c; all of them where there is none
 abbrev pub up_to : ℕ → List ℕ → ℕ

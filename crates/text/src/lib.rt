@@ -1,150 +1,103 @@
 // Text on slices: places and words in a line, numbers and hex, putting an answer together in a lent room.
 #![tactic(auto)]
 
-ghost use Rattle.std.specs.Prelude.{◌≡◌, ◌+◌, ◌-◌, ◌*◌, ◌/◌, ◌<◌, ◌≤◌, min, leb, length, drop};
+ghost use Rattle.std.specs.Prelude.{◌≡◌, ◌+◌, ◌-◌, ◌*◌, ◌/◌, ◌<◌, ◌≤◌, min, leb, length, drop, SomeIff, Bool, true, ℕ};
 ghost use Rattle.io.specs.Counts.{IsPrefixLen};
-ghost use Rattle.text.specs.Places.{up_to, past, same_list, trim_len, NextWord};
-ghost use Rattle.text.specs.Numbers.{number_in, nibble_of, all_hex, bytes_said, hex_text, glyph_of, decimal_text, labelled, numbered, numbers_text};
+ghost use Rattle.text.specs.Places.{leading, IsTest, up_to, past, same_list, trim_len};
+ghost use Rattle.text.specs.Words.{NextIs};
+ghost use Rattle.text.specs.Numbers.{is_digit, number_in, nibble_of, is_hex_digit, all_hex, bytes_said, hex_text, glyph_of, decimal_text, labelled, numbered, numbers_text};
 ghost use Rattle.text.specs.Putting.{PutFree, fronted};
 
 // The bytes that end lines and part words.
-pub const LF: u8 = 10;
+pub const LF: u8 = b'\n';
 
-pub const CR: u8 = 13;
+pub const CR: u8 = b'\r';
 
-pub const SPACE: u8 = 32;
+pub const SPACE: u8 = b' ';
 
-// What a word says as a decimal number: its value, or no number.
-#[derive(Clone, Copy)]
-pub enum Number {
-    Value(u64),
-    Not,
+// The place of the first byte from `from` on that does not pass a test, or the end.
+fn place_past<F: Fn(u8) -> bool>(s: &[u8], from: usize, passes: F) -> usize
+    requires { F.IsAlwaysCallable passes }
+    ensures { (test : ℕ → Bool) → IsTest (F.post passes) test → result ≡ from + leading test (drop from s.now) }
+{
+    for i in from..s.len() {
+        if !passes(s[i]) {
+            return i;
+        }
+    }
+    from.max(s.len())
 }
 
 // The place of the first c from `from` on, or the end.
 pub fn find(s: &[u8], from: usize, c: u8) -> usize
     ensures { result ≡ from + up_to c (drop from s.now) }
 {
-    let mut i = from;
-    while i < s.len() {
-        if s[i] == c {
-            return i;
-        }
-        i += 1;
-    }
-    i
+    place_past(s, from, |x| x != c)
 }
 
 // The place of the first byte from `from` on that is not c, or the end.
 pub fn skip(s: &[u8], from: usize, c: u8) -> usize
     ensures { result ≡ from + past c (drop from s.now) }
 {
-    let mut i = from;
-    while i < s.len() {
-        if s[i] != c {
-            return i;
-        }
-        i += 1;
-    }
-    i
+    place_past(s, from, |x| x == c)
 }
 
-// A byte as a wide number.
-fn wide64(x: u8) -> u64
-    ensures { (result ≡ x) × (result < 256) }
+// The value of a decimal digit.
+fn digit(x: u8) -> Option<u64>
+    ensures { SomeIff result (is_digit x ≡ true) (x - 48) }
 {
-    x as u64
+    match x {
+        b'0'..=b'9' => Some(u64::from(x - b'0')),
+        _ => None,
+    }
 }
 
 // A decimal number, 0 to 2^64 - 1.
-pub fn read_number(s: &[u8]) -> Number
+pub fn read_number(s: &[u8]) -> Option<u64>
     ensures { result ≡ number_in s.now }
 {
-    if s.len() < 1 {
-        return Number::Not;
+    if s.is_empty() {
+        return None;
     }
     let mut acc: u64 = 0;
-    let mut i = 0;
-    while i < s.len() {
-        let x = wide64(s[i]);
-        if x < 48 {
-            return Number::Not;
-        }
-        if 57 < x {
-            return Number::Not;
-        }
-        if 1844674407370955161 < acc {
-            return Number::Not;
-        }
-        let t = acc * 10;
-        let d = x - 48;
-        if 18446744073709551615 - d < t {
-            return Number::Not;
-        }
-        acc = t + d;
-        i += 1;
+    for &x in s {
+        let d = digit(x)?;
+        acc = acc.checked_mul(10)?.checked_add(d)?;
     }
-    Number::Value(acc)
+    Some(acc)
 }
 
-// The value of a hexadecimal digit, or 16.
-pub fn nibble(x: u8) -> u8
-    ensures { (result ≡ nibble_of x) × (result ≤ 16) }
+// The value of a hexadecimal digit.
+pub fn nibble(x: u8) -> Option<u8>
+    ensures { SomeIff result (nibble_of x < 16) (nibble_of x) }
 {
-    if x < 48 {
-        return 16;
+    match x {
+        b'0'..=b'9' => Some(x - b'0'),
+        b'A'..=b'F' => Some(x - b'A' + 10),
+        b'a'..=b'f' => Some(x - b'a' + 10),
+        _ => None,
     }
-    if x <= 57 {
-        return x - 48;
-    }
-    if x < 65 {
-        return 16;
-    }
-    if x <= 70 {
-        return x - 55;
-    }
-    if x < 97 {
-        return 16;
-    }
-    if x <= 102 {
-        return x - 87;
-    }
-    16
 }
 
-// Whether each byte is a hexadecimal digit.
+// Whether a byte is a hexadecimal digit.
+fn is_hex_digit(x: u8) -> bool
+    ensures { result ≡ is_hex_digit x }
+{
+    nibble(x).is_some()
+}
+
+// Whether each byte is one.
 pub fn all_hex(s: &[u8]) -> bool
     ensures { result ≡ all_hex s.now }
 {
-    let mut i = 0;
-    while i < s.len() {
-        let d = nibble(s[i]);
-        if 16 <= d {
-            return false;
-        }
-        i += 1;
-    }
-    true
-}
-
-// The lesser of two numbers.
-pub fn at_most(x: usize, most: usize) -> usize
-    ensures { result ≡ min x most }
-{
-    if x < most { x } else { most }
+    s.iter().all(|&x| is_hex_digit(x))
 }
 
 // Whether `size` bytes are free from `at` on in a room of `len`.
 pub fn is_free(len: usize, at: usize, size: usize) -> bool
     ensures { result ≡ leb (at + size) len }
 {
-    if len < size {
-        return false;
-    }
-    if len - size < at {
-        return false;
-    }
-    true
+    size <= len && at <= len - size
 }
 
 // Puts bytes at `at`, or nothing where they do not fit, and answers the next free place.
@@ -154,27 +107,19 @@ pub fn put(room: &mut [u8], at: usize, bytes: &[u8]) -> usize
     if !is_free(room.len(), at, bytes.len()) {
         return at;
     }
-    let mut i = 0;
-    while i < bytes.len() {
-        room[at + i] = bytes[i];
-        i += 1;
-    }
-    at + i
+    let end = at + bytes.len();
+    room[at..end].copy_from_slice(bytes);
+    end
 }
 
 // The length of a line without a CR at its end.
 pub fn trim(line: &[u8]) -> usize
     ensures { (result ≡ trim_len line.now) × IsPrefixLen result line.now }
 {
-    let n = line.len();
-    if n < 1 {
-        return 0;
+    match line {
+        [front @ .., CR] => front.len(),
+        _ => line.len(),
     }
-    let k = n - 1;
-    if line[k] == CR {
-        return k;
-    }
-    n
 }
 
 // A word stands from `from` to `to`.
@@ -184,13 +129,17 @@ pub struct Word {
     pub to: usize,
 }
 
-// The next word from `at` on; an empty one at the end where there is none, and at `at` where that is past the end.
-pub fn next_word(line: &[u8], at: usize) -> Word
-    ensures { NextWord line.now at result.from result.to }
+// The next word from `at` on, if one is left.
+pub fn next_word(line: &[u8], at: usize) -> Option<Word>
+    ensures { NextIs line.now at result }
 {
     let from = skip(line, at, SPACE);
     let to = find(line, from, SPACE);
-    Word { from, to }
+    if from < to {
+        Some(Word { from, to })
+    } else {
+        None
+    }
 }
 
 // Puts a number's decimal digits at `at`, or nothing where they do not fit.
@@ -222,7 +171,7 @@ pub fn put_numbered(room: &mut [u8], at: usize, letter: u8, x: u8) -> usize
     }
     let name = [letter];
     let next = put(room, at, &name);
-    put_decimal(room, next, x as u64)
+    put_decimal(room, next, u64::from(x))
 }
 
 // Puts a space and a number below 65,536 at `at`, or nothing where fewer than 6 bytes are free.
@@ -233,7 +182,7 @@ fn put_spaced(room: &mut [u8], at: usize, x: u16) -> usize
         return at;
     }
     let next = put(room, at, b" ");
-    put_decimal(room, next, x as u64)
+    put_decimal(room, next, u64::from(x))
 }
 
 // Puts each number, after a space, at `at`, or nothing where fewer than 6 bytes are free for each.
@@ -248,10 +197,8 @@ pub fn put_numbers(room: &mut [u8], at: usize, numbers: &[u16]) -> usize
         return at;
     }
     let mut next = at;
-    let mut i = 0;
-    while i < numbers.len() {
-        next = put_spaced(room, next, numbers[i]);
-        i += 1;
+    for &x in numbers {
+        next = put_spaced(room, next, x);
     }
     next
 }
@@ -263,14 +210,11 @@ pub fn put_hex(room: &mut [u8], at: usize, bytes: &[u8]) -> usize
     if !is_free(room.len(), at, 2 * bytes.len()) {
         return at;
     }
-    let mut i = 0;
-    while i < bytes.len() {
-        let x = bytes[i];
+    for (i, &x) in bytes.iter().enumerate() {
         room[at + 2 * i] = glyph(x / 16);
         room[at + 2 * i + 1] = glyph(x % 16);
-        i += 1;
     }
-    at + 2 * i
+    at + 2 * bytes.len()
 }
 
 // The digit of a value below 16.
@@ -278,7 +222,7 @@ fn glyph(d: u8) -> u8
     requires { d < 16 }
     ensures { result ≡ glyph_of d }
 {
-    if d < 10 { 48 + d } else { 87 + d }
+    if d < 10 { b'0' + d } else { b'a' + d - 10 }
 }
 
 // Puts the bytes that pairs of digits say at `at`, or nothing where a byte is no digit or they do not fit.
@@ -292,21 +236,19 @@ pub fn put_unhex(room: &mut [u8], at: usize, digits: &[u8]) -> usize
     if !all_hex(digits) {
         return at;
     }
-    let mut i = 0;
-    while i < n {
-        let a = nibble(digits[2 * i]);
-        let b = nibble(digits[2 * i + 1]);
+    for i in 0..n {
+        let a = nibble(digits[2 * i]).unwrap();
+        let b = nibble(digits[2 * i + 1]).unwrap();
         room[at + i] = a * 16 + b;
-        i += 1;
     }
-    at + i
+    at + n
 }
 
 // Moves the bytes from `from` to `to`, or to the room's end, to the front, and answers how many they are.
 pub fn to_front(room: &mut [u8], from: usize, to: usize) -> usize
     ensures { (result ≡ min to (length room.old) - from) × (room.new ≡ fronted room.old from result) }
 {
-    let end = at_most(to, room.len());
+    let end = to.min(room.len());
     if end < from {
         return 0;
     }
@@ -314,27 +256,16 @@ pub fn to_front(room: &mut [u8], from: usize, to: usize) -> usize
     if from == 0 {
         return n;
     }
-    let mut i = 0;
-    while i < n {
+    for i in 0..n {
         room[i] = room[from + i];
-        i += 1;
     }
     n
 }
 
 // Whether two texts are the same.
+#[tactic(auto, using(crate::proofs::Places::same_as))]
 pub fn same(a: &[u8], b: &[u8]) -> bool
     ensures { result ≡ same_list a.now b.now }
 {
-    if a.len() != b.len() {
-        return false;
-    }
-    let mut i = 0;
-    while i < a.len() {
-        if a[i] != b[i] {
-            return false;
-        }
-        i += 1;
-    }
-    true
+    a == b
 }

@@ -3,15 +3,13 @@ use mathlib.Core.Path.{ap, ◌∙◌}
 use mathlib.Core.List.{◌++◌}
 use Prim.Native.Nat.{ℕ}
 use native.Mathlib.Omega.{arith}
-use borrow.Author.Rules.{rules}
-use Rattle.text.proofs.Putting.{put_then, put_as, put_free, counted}
+use Rattle.text.proofs.Putting.{put_then, put_as, put_free}
 use Rattle.listing.specs.Printed.{counts_text, new_line, lines_in}
 use Rattle.listing.proofs.Listed.{listing_of}
 use Rattle.build.proofs.put_circuit.Goals as goal
 
-pub returns : goal.returns
-returns c = let a = c.args in
-    let x = a.c in
+pub returns-clause-put : goal.returns-clause-put
+returns-clause-put c = let x = c.args.c in
     let counts = put_free (omega arith) c.put_counts-counted.ensures in
-    let lines = put_free (omega arith) c.put_lines.ensures in
-    let e = ap (λ (y : ℕ). counts_text x.n x.m x.g y ++ new_line ++ lines_in x) c.depth_of-depth.ensures ∙ listing_of x c.requires in record { put = put_as e (put_then (omega arith) (put_then (omega arith) counts (put_free (omega arith) c.put-start.ensures)) lines); prefix_len = counted c.put_lines.result c.put_lines.new.room (search rules) }
+    let e = ap (λ (y : ℕ). counts_text x.n x.m x.g y ++ new_line ++ lines_in x) c.depth_of-depth.ensures ∙ listing_of x c.requires in
+    put_as e (put_then (omega arith) (put_then (omega arith) counts (put_free (omega arith) c.put-start.ensures)) (put_free (omega arith) c.put_lines.ensures))

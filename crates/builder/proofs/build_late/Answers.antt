@@ -1,8 +1,14 @@
--- `build_late` meets its contract: what was planned, written.
-use Rattle.builder.proofs.Written.{builds_late}
+-- `build_late` meets its contract: a refusal is given back, and what was planned is written.
+use Rattle.std.specs.Prelude.{Err}
+use mathlib.Core.Path.{◌≡◌, sym, ◌∙◌}
+use borrow.Author.Rules.{rules}
+use Rattle.builder.proofs.Written.{builds_late, builds_late_none}
 use Rattle.builder.proofs.build_late.Goals as goal
 
+pub returns-in_err-c : goal.returns-in_err-c
+returns-in_err-c c = let a = c.args in
+    let f : c.from_residual.result ≡ Err c.in_err-c.field-0.0 = search rules in
+    rw f (builds_late_none a.n a.arrivals.now a.rows.now a.limits.now a.room.now _ (sym c.in_err-c.was ∙ c.plan_late.ensures))
+
 pub returns : goal.returns
-returns c = let p = c.plan_late-p in
-    let a = c.args in
-    builds_late p.result a.room.now c.put_plan.result _ c.put_plan.ensures a.n a.arrivals.now a.rows.now a.limits.now p.ensures
+returns c = let a = c.args in builds_late a.n a.arrivals.now a.rows.now a.limits.now a.room.now _ _ _ (search rules) c.write.ensures

@@ -4,5 +4,5 @@ use Rattle.stored.specs.Writing.{writing_code}
 use Rattle.builder.proofs.build_no.Goals as goal
 
 pub returns : goal.returns
-returns c = let b = c.build-answer.ensures in
+returns c = let b = c.build.ensures in
     record { answer = c.writing_code.ensures ∙ ap writing_code b.answer; bytes = b.bytes }

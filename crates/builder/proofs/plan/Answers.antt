@@ -5,42 +5,36 @@ use Prim.Native.Nat.{ℕ}
 use native.Mathlib.Omega.{arith}
 use lib.ListN.{length, replicate, length-replicate}
 use lib.Seq.{length-take-le}
-use Rattle.circuit.specs.declared.Answer.TheVariants.{Refused}
-use Rattle.circuit.specs.declared.Circuit.{Circuit}
-use Rattle.circuit.specs.declared.Refusal.TheVariants.{Shape}
 use Rattle.circuit.specs.Sizes.{most_inputs, most_outputs}
 use Rattle.circuit.proofs.Shapes.{Shaped, shape_is}
-use Rattle.builder.specs.declared.Planned.{Planned}
 use Rattle.builder.specs.Late.{late_plan_of}
 use Rattle.builder.proofs.AsLate.{same_taken, plan_late, shape_plan}
 use Rattle.builder.proofs.plan.Goals as goal
-use Rattle.builder.proofs.plan.Goals.{Then-is_shape}
+use Rattle.builder.proofs.plan.Goals.{Else-not-is_shape}
 
-in-range : (c : Then-is_shape) → Shaped c.args.n (length c.args.rows.now) 0
-in-range c = shape_is _ _ _ (sym c.is_shape.ensures ∙ c.if-is_shape.true)
+in-range : (c : Else-not-is_shape) → Shaped c.args.n (length c.args.rows.now) 0
+in-range c = shape_is _ _ _ (sym c.is_shape.ensures ∙ c.if-not-is_shape.false)
 
 pub slice_bounds-arrivals-end : goal.slice_bounds-arrivals-end
-slice_bounds-arrivals-end c = omega (arith, (in-range (goal.at.slice_bounds-arrivals-end c).Then-is_shape).n_most, length-replicate {A = ℕ} most_inputs 0)
+slice_bounds-arrivals-end c = omega (arith, (in-range (goal.at.slice_bounds-arrivals-end c).Else-not-is_shape).n_most, length-replicate {A = ℕ} most_inputs 0)
 
 pub slice_bounds-plan_late-end : goal.slice_bounds-plan_late-end
-slice_bounds-plan_late-end c = sym (length-take-le _ _ (omega (arith, (in-range (goal.at.slice_bounds-plan_late-end c).Then-is_shape).n_most, length-replicate {A = ℕ} most_inputs 0)))
+slice_bounds-plan_late-end c = sym (length-take-le _ _ (omega (arith, (in-range (goal.at.slice_bounds-plan_late-end c).Else-not-is_shape).n_most, length-replicate {A = ℕ} most_inputs 0)))
 
 pub slice_bounds-limits-end : goal.slice_bounds-limits-end
-slice_bounds-limits-end c = omega (arith, (in-range (goal.at.slice_bounds-limits-end c).Then-is_shape).m_most, length-replicate most_outputs c.limit_of-limits.result)
+slice_bounds-limits-end c = omega (arith, (in-range (goal.at.slice_bounds-limits-end c).Else-not-is_shape).m_most, length-replicate most_outputs c.limit_of-limits.result)
 
-pub slice_bounds-plan_late-end-then-is_shape : goal.slice_bounds-plan_late-end-then-is_shape
-slice_bounds-plan_late-end-then-is_shape c = sym (length-take-le _ _ (omega (arith, (in-range (goal.at.slice_bounds-plan_late-end-then-is_shape c).Then-is_shape).m_most, length-replicate most_outputs c.limit_of-limits.result)))
+pub slice_bounds-plan_late-end-2 : goal.slice_bounds-plan_late-end-2
+slice_bounds-plan_late-end-2 c = sym (length-take-le _ _ (omega (arith, (in-range (goal.at.slice_bounds-plan_late-end-2 c).Else-not-is_shape).m_most, length-replicate most_outputs c.limit_of-limits.result)))
 
-pub returns-then-is_shape : goal.returns-then-is_shape
-returns-then-is_shape c = let a = c.args in
-    let r = in-range (goal.at.returns-then-is_shape c).Then-is_shape in
+pub returns : goal.returns
+returns c = let a = c.args in
+    let r = in-range (goal.at.returns c).Else-not-is_shape in
     let m = length a.rows.now in
     let limit = c.limit_of-limits in
     c.plan_late.ensures
     ∙ ap₂ (λ (x y : List ℕ). late_plan_of a.n x a.rows.now y) (same_taken a.n most_inputs 0 r.n_most) (same_taken m most_outputs limit.result r.m_most ∙ ap (replicate m) limit.ensures)
     ∙ sym (plan_late a.n a.rows.now a.d)
 
-pub returns-else-is_shape : goal.returns-else-is_shape
-returns-else-is_shape c = let a = c.args in
-    let f : Circuit → Planned = λ x. record { circuit = x; answer = Refused Shape } in
-    ap f c.no_circuit-none.ensures ∙ sym (shape_plan a.n a.rows.now a.d (sym c.is_shape.ensures ∙ c.if-is_shape.false))
+pub returns-then-not-is_shape : goal.returns-then-not-is_shape
+returns-then-not-is_shape c = sym (shape_plan c.args.n c.args.rows.now c.args.d (sym c.is_shape.ensures ∙ c.if-not-is_shape.true))

@@ -1,24 +1,18 @@
 -- `plan_late` meets its contract: a refusal is what the look found, and nothing after it refuses.
-use mathlib.Core.Path.{sym, ap, ◌∙◌}
-use Rattle.circuit.specs.declared.Answer.{Answer}
-use Rattle.circuit.specs.declared.Answer.TheVariants.{Done, Refused}
-use Rattle.circuit.specs.declared.Circuit.{Circuit}
-use Rattle.builder.specs.declared.Planned.{Planned}
-use Rattle.builder.specs.Call.{planned}
-use Rattle.builder.specs.Late.{late_built, late_plan_of}
+use Rattle.std.specs.Prelude.{Ok, Err}
+use mathlib.Core.Path.{◌≡◌, refl, sym, ap, ◌∙◌}
+use borrow.Author.Rules.{rules}
+use Rattle.builder.specs.Late.{late_plan_of}
 use Rattle.builder.proofs.plan_late.Goals as goal
 
-pub program-made-requires : goal.program-made-requires
-program-made-requires c = sym c.look-answer.ensures ∙ c.in-Done.is
+pub program-requires : goal.program-requires
+program-requires c = record { accepted = sym c.look.ensures ∙ c.in_ok-look.was }
 
-pub returns-in-Refused : goal.returns-in-Refused
+pub returns-in_err-look : goal.returns-in_err-look
 unfolding late_plan_of
-returns-in-Refused c = let a = c.args in
-    let f : Circuit → Planned = λ x. record { circuit = x; answer = Refused c.in-Refused.why } in
-    ap f c.no_circuit-none.ensures ∙ ap (λ (x : Answer). planned x (late_built a.n a.arrivals.now a.rows.now a.limits.now)) (sym (sym c.look-answer.ensures ∙ c.in-Refused.is))
+returns-in_err-look c = let f : c.from_residual.result ≡ Err c.in_err-look.field-0.0 = search rules in
+    f ∙ rw (sym c.look.ensures ∙ c.in_err-look.was) refl
 
-pub returns-in-Done : goal.returns-in-Done
+pub returns : goal.returns
 unfolding late_plan_of
-returns-in-Done c = let a = c.args in
-    let f : Circuit → Planned = λ x. record { circuit = x; answer = Done } in
-    ap f c.program-made.ensures ∙ ap (λ (x : Answer). planned x (late_built a.n a.arrivals.now a.rows.now a.limits.now)) (sym (sym c.look-answer.ensures ∙ c.in-Done.is))
+returns c = rw (sym c.look.ensures ∙ c.in_ok-look.was) (ap Ok c.program.ensures)

@@ -4,5 +4,5 @@ use Rattle.coded.specs.Coded.{drawn_code}
 use Rattle.coded.proofs.equations.Goals as goal
 
 pub returns : goal.returns
-returns c = let k = c.equations-drawn.ensures in
+returns c = let k = c.equations.ensures in
     record { answer = c.drawn_numbers.ensures ∙ ap drawn_code k.answer; bytes = k.bytes }

@@ -1,71 +1,53 @@
 -- `by_sizes` meets its contract: the first size from 1 on is the first size from g + 1 on.
 use mathlib.Core.List.{List}
-use mathlib.Core.Path.{refl, sym, ◌∙◌, subst}
+use mathlib.Core.Path.{sym, ◌∙◌, subst}
 use Prim.Native.Nat.{ℕ, ◌+◌, max}
 use native.Mathlib.Nat.{sub-zero}
 use native.Mathlib.Omega.{arith}
-use lib.ListN.{replicate}
 use Rattle.distance.specs.Base.{base_of}
-use Rattle.distance.specs.Distance.{first_at}
 use Rattle.distance.specs.Table.{Below, Ones}
 use Rattle.distance.proofs.Sizes.{size_hit, size_miss, size_end}
-use Rattle.distance.proofs.Entries.{cost_is, cost_lt}
-use Rattle.distance.proofs.BySizes.{below_two, size_filled, size_there, ready_of}
-use Rattle.distance.proofs.Lines.{put-found, put-not, answer_found, answer_none}
+use Rattle.distance.proofs.Entries.{cost_is, cost_near}
+use Rattle.distance.proofs.BySizes.{below_two, below_next, size_filled, size_there}
+use Rattle.distance.proofs.Lines.{some_found, none_found, answer_found, answer_none}
 use Rattle.distance.proofs.by_sizes.Goals as goal
 use Rattle.distance.proofs.by_sizes.Goals.{Joined-g-gt1, else-g-gt1, then-g-gt1}
 
 pub loop-g-init : goal.loop-g-init
-loop-g-init c = let d = c.requires.fact_5 in
-    let left = cost_lt _ _ d (cost_is _ _ d c.cost-left.ensures) in
-    (simp sub-zero, refl, below_two _ _ _ left c.ones-h.ensures, c.ones-h.ensures)
-
-pub next_size-requires : goal.next_size-requires
-next_size-requires c = record { fact_1 = omega (arith, c.if-g-gt1.true); fact_2 = omega (arith, c.loop-g-test.true, c.requires.fact_4) }
+loop-g-init c = record { passed = simp sub-zero; below = below_two _ _ _ (cost_near _ _ c.requires.shallow c.cost-left.ensures) c.ones-h.ensures; ones = c.ones-h.ensures }
 
 -- what the array has before the search
 abbrev Has : Joined-g-gt1 → List ℕ → Type 0
 Has c h =
-    let a = c.args in
+    let base = c.args.base.now in
     let left = c.cost-left.result in
-    Below h (base_of a.masks.now a.depths.now) (max (c.loop-g.g + 1) 2) left × Ones h (base_of a.masks.now a.depths.now)
+    Below h (base_of base.masks.now base.depths.now) (max (c.loop-g.g + 1) 2) left × Ones h (base_of base.masks.now base.depths.now)
 
 -- the size was filled, or was there
 has : (c : Joined-g-gt1) → Has c c.if-g-gt1.h
 has c =
-    let d = c.requires.fact_5 in
-    let left = cost_lt _ _ d (cost_is _ _ d c.cost-left.ensures) in
-    let at = c.loop-g in
-    elim c.if-g-gt1.branch [ then-g-gt1 w ↦ subst (Has c) (sym w.h-is) (size_filled _ _ _ _ _ w.if-g-gt1.true left w.next_size.ensures at.invariant.2 at.invariant.3) | else-g-gt1 w ↦ subst (Has c) (sym w.h-is) (size_there _ _ _ _ (omega (arith, w.if-g-gt1.false)) at.invariant.2, at.invariant.3) ]
+    let at = c.loop-g.invariant in
+    elim c.if-g-gt1.branch [
+      | then-g-gt1 w ↦ subst (Has c) (sym w.h-is) (size_filled _ _ _ _ _ w.if-g-gt1.true (cost_near _ _ c.requires.shallow c.cost-left.ensures) (rw w.from.ensures at w.next_size.ensures) at.below at.ones)
+      | else-g-gt1 w ↦ subst (Has c) (sym w.h-is) (size_there _ _ _ _ (omega (arith, w.if-g-gt1.false)) at.below, at.ones)
+    ]
 
-pub later-requires : goal.later-requires
-later-requires c = let p = c.requires in
-    let d = p.fact_5 in
-    let left = cost_lt _ _ d (cost_is _ _ d c.cost-left.ensures) in
-    let small = c.loop-g-test.true in
-    (ready_of _ _ _ _ _ p.fact_1 p.fact_2 p.fact_3 (has (goal.at.later-requires c).Joined-g-gt1).0, (omega (arith, small, p.fact_4), (left, omega (arith, small, p.fact_4))))
+pub later-requires-clause-table : goal.later-requires-clause-table
+later-requires-clause-table c = below_next _ _ _ _ (has (goal.at.later-requires-clause-table c).Joined-g-gt1).0
 
-pub returns-then-later : goal.returns-then-later
-returns-then-later c = let p = c.requires in
-    let at = c.loop-g in
+pub returns-in-Some : goal.returns-in-Some
+returns-in-Some c =
+    let told = c.in-Some.ensures in
     let small = c.loop-g-test.true in
-    let told = c.later.ensures in
-    let there = sym told.0 ∙ c.if-later.true in
-    let a = c.args in
-    answer_found a.masks.now a.depths.now a.n a.t a.d _ (cost_is _ _ p.fact_5 c.cost-left.ensures) _ _ (omega (arith, small, p.fact_4)) (at.invariant.0 ∙ size_hit _ _ _ _ _ _ small there) there
-    (put-found (replicate 8 0) at.lines _ (first_at a.masks.now a.depths.now 0 (at.g + 1) a.t c.cost-left.result) _ 0 told.1 c.if-later.true at.invariant.1)
+    rw c.from-in-Some.ensures
+    (answer_found _ _ _ _ _ _ (cost_is _ _ c.requires.shallow c.cost-left.ensures) _ _ (omega (arith, small, c.requires.few_inputs))
+    (c.loop-g.invariant.passed ∙ size_hit _ _ _ _ _ _ small (some_found _ _ _ told).0) told)
 
 pub loop-g-preserved : goal.loop-g-preserved
-loop-g-preserved c = let at = c.loop-g in
-    let no = sym c.later.ensures.0 ∙ c.if-later.false in
-    let filled = has (goal.at.loop-g-preserved c).Joined-g-gt1 in (
-      at.invariant.0 ∙ size_miss _ _ _ _ _ _ c.loop-g-test.true no,
-      put-not _ _ _ _ _ c.later.ensures.1 c.if-later.false at.invariant.1,
-      filled.0,
-      filled.1,
-    )
+loop-g-preserved c =
+    let none = none_found _ _ _ c.later.ensures c.in_default.not-Some in
+    let filled = has (goal.at.loop-g-preserved c).Joined-g-gt1 in
+    record { passed = c.loop-g.invariant.passed ∙ size_miss _ _ _ _ _ _ c.loop-g-test.true none; below = filled.0; ones = filled.1 }
 
 pub returns : goal.returns
-returns c = let w = cost_is _ _ c.requires.fact_5 c.cost-left.ensures in
-    let a = c.args in
-    answer_none a.masks.now a.depths.now a.n a.t a.d _ w _ (c.loop-g.invariant.0 ∙ size_end _ _ _ _ _ c.loop-g-test.false) c.no_lines_beside.ensures
+returns c = let base = c.args.base.now in answer_none base.masks.now base.depths.now c.args.n c.args.t c.args.d _ (cost_is _ _ c.requires.shallow c.cost-left.ensures) (c.loop-g.invariant.passed ∙ size_end _ _ _ _ _ c.loop-g-test.false)

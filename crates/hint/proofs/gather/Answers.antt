@@ -9,20 +9,18 @@ use Rattle.hint.proofs.gather.Goals as goal
 use Rattle.hint.proofs.gather.Goals.{else-depths-i-le15, then-depths-i-le15}
 
 pub loop-i-init : goal.loop-i-init
-loop-i-init c = (search rules, search rules, gathered_none _ _)
+loop-i-init c = (search rules, gathered_none _ _)
 
 pub loop-i-preserved : goal.loop-i-preserved
 loop-i-preserved c = let i = c.loop-i.i in
-    let t = c.loop-i.invariant.2 in
+    let t = c.loop-i.invariant.1 in
     elim c.if-depths-i-le15.branch [
       | then-depths-i-le15 w ↦ (
-        search rules,
         omega (arith, w.taken-is),
         (λ z. record { masks = w.base_masks-is z; depths = w.base_depths-is z; lines = w.lines-is z; count = w.taken-is z })
             ∙ gathered-put _ _ i _ _ _ c.loop-i.taken w.low16.result w.if-depths-i-le15.true (omega arith) (w.low16.ensures ∙ mod-eq_of_lt (omega arith)) t,
       )
       | else-depths-i-le15 w ↦ (
-        search rules,
         omega (arith, w.taken-is),
         (λ z. record { masks = w.base_masks-is z; depths = w.base_depths-is z; lines = w.lines-is z; count = w.taken-is z }) ∙ t ∙ gathered_skip _ _ i w.if-depths-i-le15.false,
       )
@@ -30,4 +28,4 @@ loop-i-preserved c = let i = c.loop-i.i in
 
 pub returns : goal.returns
 returns c = let e : c.loop-i.i ≡ c.args.count = omega arith in
-    c.loop-i.invariant.2 ∙ ap (gathered _ _) e
+    c.loop-i.invariant.1 ∙ ap (gathered _ _) e

@@ -1,5 +1,4 @@
 -- `hint::input_masks` meets its contract. The invariant: the inputs so far, and nothing past them. Assumes nothing.
-use borrow.Author.Rules.{rules}
 use native.Mathlib.Omega.{arith}
 use mathlib.Core.Path.{◌≡◌, refl, ap, ◌∙◌}
 use mathlib.Core.List.{List}
@@ -14,13 +13,13 @@ use Rattle.hint.proofs.input_masks.Goals as goal
 
 pub loop-i-init : goal.loop-i-init
 unfolding upto
-loop-i-init c = (search rules, refl)
+loop-i-init c = refl
 
 pub loop-i-preserved : goal.loop-i-preserved
 loop-i-preserved c = let i = c.loop-i.i in
     let v = (1 * 2 ^ i) % 2 ^ 8 in
-    (search rules, ap (λ (l : List ℕ). set l i v) c.loop-i.invariant.1 ∙ upto_put most_lines 0 (λ (k : ℕ). 2 ^ k) i v (input_is i (omega arith)) (omega arith))
+    ap (λ (l : List ℕ). set l i v) c.loop-i.invariant ∙ upto_put most_lines 0 (λ (k : ℕ). 2 ^ k) i v (input_is i (omega arith)) (omega arith)
 
 pub returns : goal.returns
 returns c = let e : c.loop-i.i ≡ c.args.n = omega arith in
-    c.loop-i.invariant.1 ∙ ap (λ (x : ℕ). padded most_lines 0 (input_masks x)) e
+    c.loop-i.invariant ∙ ap (λ (x : ℕ). padded most_lines 0 (input_masks x)) e

@@ -1,6 +1,6 @@
 use mathlib.Core.Path.{◌≡◌}
 use mathlib.Core.Bool.{Bool}
-use Prim.Native.Nat.{ℕ, ◌≤◌, ◌-◌}
+use Prim.Native.Nat.{ℕ, ◌-◌}
 use Rattle.bench.specs.declared.Bench.{Bench}
 use Rattle.bench.specs.State.{least}
 use Rattle.report.specs.Judged.{differs_in}
@@ -11,7 +11,4 @@ abbrev pub bad : Bench → ℕ → ℕ → Bool
 bad b x = differs_in b.values b.outputs b.wanted x
 
 abbrev pub invariant-loop-j : goal.invariant-loop-j
-invariant-loop-j l = (l.j ≤ l.m) × (least (bad l.b l.x) (l.m - l.j) l.j ≡ least (bad l.b l.x) l.m 0)
-
-abbrev pub decreases-loop-j : goal.decreases-loop-j
-decreases-loop-j l = l.m - l.j
+invariant-loop-j l = least (bad l.b l.x) (l.b.m - l.j) l.j ≡ least (bad l.b l.x) l.b.m 0

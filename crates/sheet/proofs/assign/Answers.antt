@@ -1,34 +1,30 @@
-use Rattle.sheet.proofs.Laws.{too_many, no_name, long_name, known_name, no_sign, formula_read}
-use Rattle.formula.specs.Emit.{gates_at}
-use native.Mathlib.Omega.{arith}
-use borrow.Author.Tests.{not-true, not-false}
+use Rattle.sheet.proofs.Laws.{too_many, no_name, long_name, known_name, no_sign, formula_refused, line_more, line_over}
+use Rattle.std.proofs.lemmas.Result.{err_from_is_err_and}
 use mathlib.Core.Path.{sym, ◌∙◌}
 use Rattle.sheet.proofs.assign.Goals as goal
 
--- src/lib.rt:117:9
-pub returns-then-n-ge-NAMES : goal.returns-then-n-ge-NAMES
-returns-then-n-ge-NAMES c = too_many _ _ _ _ _ _ (gates_at c.args.rows.now c.args.t) _ c.if-n-ge-NAMES.true c.stop.ensures
+pub returns-then-names-ge-NAMES : goal.returns-then-names-ge-NAMES
+returns-then-names-ge-NAMES c = too_many _ _ _ c.args.gates.now _ c.if-names-ge-NAMES.true c.fail.ensures
 
--- src/lib.rt:121:9
 pub returns-then-e-p : goal.returns-then-e-p
-returns-then-e-p c = no_name _ _ _ _ _ _ (gates_at c.args.rows.now c.args.t) c.if-n-ge-NAMES.false _ c.scan-e.ensures _ c.if-e-p.true c.stop-then-e-p.ensures
+returns-then-e-p c = no_name _ _ _ c.args.gates.now c.if-names-ge-NAMES.false _ c.scan-e.ensures _ c.if-e-p.true c.fail-then-e-p.ensures
 
--- src/lib.rt:124:9
 pub returns-then-e-p-gt-LONGEST : goal.returns-then-e-p-gt-LONGEST
-returns-then-e-p-gt-LONGEST c = long_name _ _ _ _ _ _ (gates_at c.args.rows.now c.args.t) c.if-n-ge-NAMES.false _ c.scan-e.ensures _ c.if-e-p.false c.if-e-p-gt-LONGEST.true c.stop-then-e-p-gt-LONGEST.ensures
+returns-then-e-p-gt-LONGEST c = long_name _ _ _ c.args.gates.now c.if-names-ge-NAMES.false _ c.scan-e.ensures _ c.if-e-p.false c.if-e-p-gt-LONGEST.true c.fail-then-e-p-gt-LONGEST.ensures
 
--- src/lib.rt:128:9
-pub returns-in_default : goal.returns-in_default
-returns-in_default c = known_name _ _ _ _ _ _ (gates_at c.args.rows.now c.args.t) c.if-n-ge-NAMES.false _ c.scan-e.ensures c.if-e-p.false c.if-e-p-gt-LONGEST.false _ c.look_up-known.ensures _ _ c.in_default.is c.stop-in_default.ensures
+pub returns-then-is_some : goal.returns-then-is_some
+returns-then-is_some c = known_name _ _ _ c.args.gates.now c.if-names-ge-NAMES.false _ c.scan-e.ensures c.if-e-p.false c.if-e-p-gt-LONGEST.false _ c.look_up.ensures _ (sym c.is_some.ensures ∙ c.if-is_some.true) c.fail-then-is_some.ensures
 
--- src/lib.rt:132:9
 pub returns-then-not-sees : goal.returns-then-not-sees
-returns-then-not-sees c = no_sign _ _ _ _ _ _ (gates_at c.args.rows.now c.args.t) c.if-n-ge-NAMES.false _ c.scan-e.ensures c.if-e-p.false c.if-e-p-gt-LONGEST.false _ c.look_up-known.ensures _ _ c.in-Nothing.is c.scan-q.ensures (sym c.sees.ensures.is ∙ not-true _ c.if-not-sees.true-raw) c.stop-then-not-sees.ensures
+returns-then-not-sees c = no_sign _ _ _ c.args.gates.now c.if-names-ge-NAMES.false _ c.scan-e.ensures c.if-e-p.false c.if-e-p-gt-LONGEST.false _ c.look_up.ensures (sym c.is_some.ensures ∙ c.if-is_some.false) _ c.scan-q.ensures _ (sym c.sees.ensures.is ∙ c.if-not-sees.true) c.fail-then-not-sees.ensures
 
--- src/lib.rt:134:45
-pub overflow_add-q : goal.overflow_add-q
-overflow_add-q c = omega (arith, c.sees.ensures.within (not-false _ c.if-not-sees.false-raw))
+pub returns-in_err-z : goal.returns-in_err-z
+returns-in_err-z c =
+    let p = err_from_is_err_and c.from_residual.result c.from_residual.ensures.1 in
+    rw (p.1, p.2) (formula_refused _ _ _ c.args.gates.now c.if-names-ge-NAMES.false _ c.scan-e.ensures c.if-e-p.false c.if-e-p-gt-LONGEST.false _ c.look_up.ensures (sym c.is_some.ensures ∙ c.if-is_some.false) _ c.scan-q.ensures (sym c.sees.ensures.is ∙ c.if-not-sees.false) _ _ c.in_err-z.ensures)
 
--- src/lib.rt:104:1
+pub returns-then-not-line_ends : goal.returns-then-not-line_ends
+returns-then-not-line_ends c = line_more _ _ _ c.args.gates.now c.if-names-ge-NAMES.false _ c.scan-e.ensures c.if-e-p.false c.if-e-p-gt-LONGEST.false _ c.look_up.ensures (sym c.is_some.ensures ∙ c.if-is_some.false) _ c.scan-q.ensures (sym c.sees.ensures.is ∙ c.if-not-sees.false) _ _ _ c.in_ok-z.ensures _ (sym c.line_ends.ensures ∙ c.if-not-line_ends.true) c.fail-then-not-line_ends.ensures
+
 pub returns : goal.returns
-returns c = formula_read _ _ _ _ _ _ (gates_at c.args.rows.now c.args.t) c.if-n-ge-NAMES.false _ c.scan-e.ensures c.if-e-p.false c.if-e-p-gt-LONGEST.false _ c.look_up-known.ensures _ _ _ c.in-Nothing.is c.scan-q.ensures (sym c.sees.ensures.is ∙ not-false _ c.if-not-sees.false-raw) c.read_or-r.ensures c.end_line.ensures
+returns c = line_over _ _ _ c.args.gates.now c.if-names-ge-NAMES.false _ c.scan-e.ensures c.if-e-p.false c.if-e-p-gt-LONGEST.false _ c.look_up.ensures (sym c.is_some.ensures ∙ c.if-is_some.false) _ c.scan-q.ensures (sym c.sees.ensures.is ∙ c.if-not-sees.false) _ _ _ c.in_ok-z.ensures (sym c.line_ends.ensures ∙ c.if-not-line_ends.false)

@@ -1,65 +1,36 @@
 use Rattle.sheet.proofs.Laws.{ahead, begins, over, blank_line, refused_by, room, forth, assigned}
-use Rattle.sheet.specs.Sheet.{no_book}
+use Rattle.std.proofs.lemmas.Result.{err_from_is_err_and}
 use native.Mathlib.Omega.{arith}
 use Rattle.sheet.proofs.read_file.Goals as goal
 
--- src/lib.rt:172:5
-pub loop-rows-init : goal.loop-rows-init
-unfolding no_book
-loop-rows-init c = begins _ _ (rw c.clear-tip.ensures)
+pub loop-book-init : goal.loop-book-init
+loop-book-init c = begins _ _ c.no_book-book.ensures
 
--- src/lib.rt:185:13
 pub returns-then-s-q : goal.returns-then-s-q
-returns-then-s-q c = rw c.gates_in-gates.ensures (over _ _ _ c.loop-rows.invariant _ c.scan-q.ensures c.if-s-q.true)
+returns-then-s-q c = over _ _ _ c.loop-book.invariant _ c.scan-q.ensures c.if-s-q.true
 
--- src/lib.rt:172:5
-pub loop-rows-smaller-then-s-q-eq10 : goal.loop-rows-smaller-then-s-q-eq10
-loop-rows-smaller-then-s-q-eq10 c = omega (arith, ahead _ _ _ c.scan-q.ensures)
+pub loop-book-smaller-then-s-q-eq10 : goal.loop-book-smaller-then-s-q-eq10
+loop-book-smaller-then-s-q-eq10 c = omega (arith, ahead _ _ _ c.scan-q.ensures)
 
--- src/lib.rt:172:5
-pub loop-rows-preserved-then-s-q-eq10 : goal.loop-rows-preserved-then-s-q-eq10
-loop-rows-preserved-then-s-q-eq10 c = blank_line _ _ _ c.loop-rows.invariant _ c.scan-q.ensures c.if-s-q.false c.if-s-q-eq10.true
+pub loop-book-preserved-then-s-q-eq10 : goal.loop-book-preserved-then-s-q-eq10
+loop-book-preserved-then-s-q-eq10 c = blank_line _ _ _ c.loop-book.invariant _ c.scan-q.ensures c.if-s-q.false c.if-s-q-eq10.true
 
--- src/lib.rt:193:17
-pub returns-in_default : goal.returns-in_default
-returns-in_default c = refused_by _ _ _ c.loop-rows.invariant _ c.scan-q.ensures c.if-s-q.false c.if-s-q-eq10.false _ c.assign-a.ensures _ _ c.in_default.is c.refuse.ensures
+pub returns-in_err-z : goal.returns-in_err-z
+returns-in_err-z c =
+    let p = err_from_is_err_and c.from_residual.result c.from_residual.ensures.1 in
+    rw (p.1, p.2) (refused_by _ _ _ c.loop-book.invariant _ c.scan-q.ensures c.if-s-q.false c.if-s-q-eq10.false _ _ c.in_err-z.ensures)
 
--- src/lib.rt:196:13
-pub offset_bounds-low-n : goal.offset_bounds-low-n
-offset_bounds-low-n c = omega (arith, room _ _ _ c.loop-rows.invariant _ c.scan-q.ensures c.if-s-q.false c.if-s-q-eq10.false _ c.assign-a.ensures _ c.in-On.is)
+pub offset_bounds-book-book : goal.offset_bounds-book-book
+offset_bounds-book-book c = omega (arith, room _ _ _ c.loop-book.invariant _ c.scan-q.ensures c.if-s-q.false c.if-s-q-eq10.false _ _ _ c.in_ok-z.ensures)
 
--- src/lib.rt:196:13
-pub bounds-low-n : goal.bounds-low-n
-bounds-low-n c = omega (arith, room _ _ _ c.loop-rows.invariant _ c.scan-q.ensures c.if-s-q.false c.if-s-q-eq10.false _ c.assign-a.ensures _ c.in-On.is)
+pub bounds-book-book : goal.bounds-book-book
+bounds-book-book c = omega (arith, room _ _ _ c.loop-book.invariant _ c.scan-q.ensures c.if-s-q.false c.if-s-q-eq10.false _ _ _ c.in_ok-z.ensures)
 
--- src/lib.rt:197:13
-pub offset_bounds-high-n : goal.offset_bounds-high-n
-offset_bounds-high-n c = omega (arith, room _ _ _ c.loop-rows.invariant _ c.scan-q.ensures c.if-s-q.false c.if-s-q-eq10.false _ c.assign-a.ensures _ c.in-On.is)
+pub set_name-requires : goal.set_name-requires
+set_name-requires c = room _ _ _ c.loop-book.invariant _ c.scan-q.ensures c.if-s-q.false c.if-s-q-eq10.false _ _ _ c.in_ok-z.ensures
 
--- src/lib.rt:197:13
-pub bounds-high-n : goal.bounds-high-n
-bounds-high-n c = omega (arith, room _ _ _ c.loop-rows.invariant _ c.scan-q.ensures c.if-s-q.false c.if-s-q-eq10.false _ c.assign-a.ensures _ c.in-On.is)
+pub loop-book-smaller : goal.loop-book-smaller
+loop-book-smaller c = omega (arith, ahead _ _ _ c.scan-q.ensures, forth _ _ _ c.loop-book.invariant _ c.scan-q.ensures c.if-s-q.false c.if-s-q-eq10.false _ _ _ c.in_ok-z.ensures)
 
--- src/lib.rt:198:13
-pub bounds-lines-n : goal.bounds-lines-n
-bounds-lines-n c = omega (arith, room _ _ _ c.loop-rows.invariant _ c.scan-q.ensures c.if-s-q.false c.if-s-q-eq10.false _ c.assign-a.ensures _ c.in-On.is)
-
--- src/lib.rt:199:13
-pub offset_bounds-starts-n : goal.offset_bounds-starts-n
-offset_bounds-starts-n c = omega (arith, room _ _ _ c.loop-rows.invariant _ c.scan-q.ensures c.if-s-q.false c.if-s-q-eq10.false _ c.assign-a.ensures _ c.in-On.is)
-
--- src/lib.rt:199:13
-pub bounds-starts-n : goal.bounds-starts-n
-bounds-starts-n c = omega (arith, room _ _ _ c.loop-rows.invariant _ c.scan-q.ensures c.if-s-q.false c.if-s-q-eq10.false _ c.assign-a.ensures _ c.in-On.is)
-
--- src/lib.rt:200:13
-pub overflow_add-n : goal.overflow_add-n
-overflow_add-n c = omega (arith, room _ _ _ c.loop-rows.invariant _ c.scan-q.ensures c.if-s-q.false c.if-s-q-eq10.false _ c.assign-a.ensures _ c.in-On.is)
-
--- src/lib.rt:172:5
-pub loop-rows-smaller : goal.loop-rows-smaller
-loop-rows-smaller c = omega (arith, ahead _ _ _ c.scan-q.ensures, forth _ _ _ c.loop-rows.invariant _ c.scan-q.ensures c.if-s-q.false c.if-s-q-eq10.false _ c.assign-a.ensures _ c.in-On.is)
-
--- src/lib.rt:172:5
-pub loop-rows-preserved : goal.loop-rows-preserved
-loop-rows-preserved c = rw (c.low_key.ensures, c.high_key.ensures, c.scan-e.ensures) (assigned _ _ _ c.loop-rows.invariant _ c.scan-q.ensures c.if-s-q.false c.if-s-q-eq10.false _ c.assign-a.ensures _ c.in-On.is)
+pub loop-book-preserved : goal.loop-book-preserved
+loop-book-preserved c = rw c.set_name.ensures (assigned _ _ _ c.loop-book.invariant _ c.scan-q.ensures c.if-s-q.false c.if-s-q-eq10.false _ _ _ c.in_ok-z.ensures)

@@ -1,12 +1,9 @@
 -- `sweep::key_of` meets its contract. Assumes nothing.
-use native.Mathlib.Omega.{arith}
-use Rattle.sweep.specs.Parts.{key_of}
+use mathlib.Core.Path.{ap, ap₂, ◌∙◌}
+use Prim.Native.Nat.{min, max}
+use Rattle.sweep.specs.Parts.{keyed, key_of}
 use Rattle.sweep.proofs.key_of.Goals as goal
 
-pub returns-then-a-second : goal.returns-then-a-second
+pub returns : goal.returns
 unfolding key_of
-returns-then-a-second c = omega arith
-
-pub returns-else-a-second : goal.returns-else-a-second
-unfolding key_of
-returns-else-a-second c = omega arith
+returns c = c.digits.ensures ∙ ap₂ (keyed c.args.kind) (c.min.ensures ∙ ap (min c.args.a) c.second_read-second.ensures) (c.max.ensures ∙ ap (max c.args.a) c.second_read-second.ensures)

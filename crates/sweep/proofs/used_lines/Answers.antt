@@ -4,7 +4,6 @@ use mathlib.Core.Bool.{false}
 use lib.ListN.{get_or}
 use Prim.Native.Nat.{ℕ, suc, ◌+◌, ◌-◌}
 use native.Mathlib.Omega.{arith}
-use borrow.Author.Rules.{rules}
 use Rattle.circuit.specs.Structs.{line_in}
 use Rattle.circuit.proofs.Operands.{second_line}
 use Rattle.sweep.specs.Parts.{marked}
@@ -12,21 +11,17 @@ use Rattle.sweep.proofs.Marks.{Reached, reached-none, reached_next, reached-all}
 use Rattle.sweep.proofs.used_lines.Goals as goal
 
 pub loop-k-init : goal.loop-k-init
-loop-k-init c = (search rules, search rules, search rules, c.named-marks.ensures ∙ reached-none c.args.c)
+loop-k-init c = c.named-marks.ensures ∙ reached-none c.args.c
 
 pub loop-k-preserved : goal.loop-k-preserved
 loop-k-preserved c = let a = c.args.c in
     let k = c.loop-k.k - 1 in
-    let z : c.loop-k.k ≡ suc k = omega arith in (
-      search rules,
-      search rules,
-      search rules,
-      reached_next a k c.loop-k.marks (omega arith) (omega arith) (c.loop-k.invariant.3 ∙ ap (λ (j : ℕ). marked (Reached a j)) z) c.line_index-x.result c.line_index-y.result
-          c.line_index-x.ensures.1 c.line_index-y.ensures.1 c.line_index-x.ensures.0 (c.line_index-y.ensures.0 ∙ ap line_in c.second_read.ensures ∙ second_line _ _ _)
-          (get_or c.loop-k.marks (a.n + k) false) c.either.result c.either-in-loop-k.result refl c.either.ensures c.either-in-loop-k.ensures,
-    )
+    let z : c.loop-k.k ≡ suc k = omega arith in
+    reached_next a k c.loop-k.marks (omega arith) (omega arith) (c.loop-k.invariant ∙ ap (λ (j : ℕ). marked (Reached a j)) z) c.line_index-x.result c.line_index-y.result
+    c.line_index-x.ensures.1 c.line_index-y.ensures.1 c.line_index-x.ensures.0 (c.line_index-y.ensures.0 ∙ ap line_in c.second_read.ensures ∙ second_line _ _ _)
+    (get_or c.loop-k.marks (a.n + k) false) _ _ refl refl refl
 
 pub returns : goal.returns
 returns c = let a = c.args.c in
     let e : c.loop-k.k ≡ 0 = omega arith in
-    c.loop-k.invariant.3 ∙ ap (λ (j : ℕ). marked (Reached a j)) e ∙ reached-all a
+    c.loop-k.invariant ∙ ap (λ (j : ℕ). marked (Reached a j)) e ∙ reached-all a

@@ -12,4 +12,5 @@ pub returns : goal.returns
 returns c = let a = c.args in
     let short = numbered_fits 32 a.x (search rules) in
     let room = is_free _ _ c.is_free.ensures c.if-not-is_free.false-raw in
-    put_fits room (omega (arith, short)) (put_then (omega arith) (put_free (omega arith) c.put-next.ensures) (put_free (omega (arith, short)) c.put_decimal.ensures))
+    let digits = rw c.from.ensures at c.put_decimal.ensures in
+    put_fits room (omega (arith, short, digits.bound)) (put_then (omega arith) (put_free (omega arith) c.put-next.ensures) (put_free (omega (arith, short)) digits))

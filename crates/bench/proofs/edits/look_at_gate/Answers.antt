@@ -2,22 +2,22 @@
 use borrow.Author.Tests.{lt-ltb, le-ltb}
 use native.Mathlib.Omega.{arith}
 use mathlib.Core.Path.{sym, ◌∙◌}
-use Rattle.circuit.proofs.Shapes.{shape_is, both}
 use Rattle.bench.specs.Parts.{gate_look}
+use Rattle.bench.proofs.Stood.{standing-shaped}
 use Rattle.bench.proofs.edits.look_at_gate.Goals as goal
 
-pub overflow_add-n : goal.overflow_add-n
-overflow_add-n c = let a = c.args in
-    omega (arith, shape_is a.n a.m a.g (both a.opened (sym c.is_standing.ensures ∙ c.if-is_standing.true)).1)
+pub overflow_add-bench : goal.overflow_add-bench
+overflow_add-bench c = let z = c.args.bench.now in
+    omega (arith, standing-shaped z.is_open z.n z.m z.g (sym c.is_standing.ensures ∙ c.if-not-is_standing.false))
 
-pub returns-then-k-g : goal.returns-then-k-g
+pub returns-then-not-is_standing : goal.returns-then-not-is_standing
 unfolding gate_look
-returns-then-k-g c = simp (sym c.is_standing.ensures ∙ c.if-is_standing.true, lt-ltb _ _ c.if-k-g.true) c.check_gate.ensures
+returns-then-not-is_standing c = simp (sym c.is_standing.ensures ∙ c.if-not-is_standing.true)
 
-pub returns-else-k-g : goal.returns-else-k-g
+pub returns-then-bench-k : goal.returns-then-bench-k
 unfolding gate_look
-returns-else-k-g c = simp (sym c.is_standing.ensures ∙ c.if-is_standing.true, le-ltb _ _ c.if-k-g.false)
+returns-then-bench-k c = simp (sym c.is_standing.ensures ∙ c.if-not-is_standing.false, le-ltb _ _ c.if-bench-k.true)
 
-pub returns-else-is_standing : goal.returns-else-is_standing
+pub returns : goal.returns
 unfolding gate_look
-returns-else-is_standing c = simp (sym c.is_standing.ensures ∙ c.if-is_standing.false)
+returns c = simp (sym c.is_standing.ensures ∙ c.if-not-is_standing.false, lt-ltb _ _ c.if-bench-k.false) c.check_gate.ensures

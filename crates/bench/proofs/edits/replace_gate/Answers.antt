@@ -4,7 +4,7 @@ use Rattle.bench.proofs.edits.replace_gate.Goals as goal
 
 pub rework-requires : goal.rework-requires
 rework-requires c = λ d.
-    let o = look_fits c.args.bench.is_open _ _ _ _ _ _ _ _ _ c.look_at_gate-look.ensures d in
+    let o = look_fits c.args.bench _ _ _ _ _ c.look_at_gate-look.ensures d in
     (o.shape.n_most, o.shape.g_most, o.there)
 
 pub returns : goal.returns

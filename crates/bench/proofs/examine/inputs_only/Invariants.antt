@@ -1,5 +1,4 @@
 use mathlib.Core.Path.{◌≡◌}
-use Prim.Native.Nat.{◌≤◌, ◌-◌}
 use lib.ListN.{take}
 use Rattle.circuit.specs.Gate.{no_words}
 use Rattle.circuit.specs.Lines.{input_words, padded}
@@ -7,7 +6,4 @@ use Rattle.circuit.specs.Sizes.{most_lines}
 use Rattle.bench.proofs.examine.inputs_only.Given as goal
 
 abbrev pub invariant-loop-i : goal.invariant-loop-i
-invariant-loop-i l = (l.i ≤ l.n) × (l.values ≡ padded most_lines no_words (take l.i input_words))
-
-abbrev pub decreases-loop-i : goal.decreases-loop-i
-decreases-loop-i l = l.n - l.i
+invariant-loop-i l = l.values ≡ padded most_lines no_words (take l.i input_words)

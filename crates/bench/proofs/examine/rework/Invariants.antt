@@ -1,9 +1,5 @@
-use Prim.Native.Nat.{◌-◌}
 use Rattle.bench.proofs.Turn.{Turn}
 use Rattle.bench.proofs.examine.rework.Given as goal
 
 abbrev pub invariant-loop-j : goal.invariant-loop-j
 invariant-loop-j l = Turn l.initial.c l.k l.c l.lines l.count l.marks l.j
-
-abbrev pub decreases-loop-j : goal.decreases-loop-j
-decreases-loop-j l = l.g - l.j

@@ -1,7 +1,6 @@
 use mathlib.Core.List.{map}
 use mathlib.Core.Path.{◌≡◌}
-use Prim.Native.Nat.{◌-◌, ◌≤◌}
-use lib.ListN.{length, take}
+use lib.ListN.{take}
 use Rattle.circuit.specs.Lines.{padded}
 use Rattle.circuit.specs.Sizes.{most_outputs}
 use Rattle.distance.specs.Base.{base_of}
@@ -9,7 +8,4 @@ use Rattle.builder.specs.Rule.{rows_of, lowest}
 use Rattle.builder.proofs.program.outputs.Given as goal
 
 abbrev pub invariant-loop-i : goal.invariant-loop-i
-invariant-loop-i l = (l.i ≤ length l.rows) × (l.outs ≡ padded most_outputs 0 (take l.i (map (lowest (base_of l.masks l.depths)) (rows_of l.rows l.limits))))
-
-abbrev pub decreases-loop-i : goal.decreases-loop-i
-decreases-loop-i l = l.i-end - l.i
+invariant-loop-i l = l.outs ≡ padded most_outputs 0 (take l.i (map (lowest (base_of l.base.masks.now l.base.depths.now)) (rows_of l.rows.masks.now l.rows.limits.now)))

@@ -5,19 +5,14 @@ use native.Mathlib.Omega.{arith}
 use lib.ListN.{get_or}
 use Rattle.circuit.proofs.Depths.{overall_next, overall_end}
 use Rattle.circuit.proofs.depth.overall_of.Goals as goal
-use Rattle.circuit.proofs.depth.overall_of.Goals.{else-top-here, then-top-here}
 
-pub loop-j-init : goal.loop-j-init
-loop-j-init c = omega arith
-
-pub loop-j-preserved : goal.loop-j-preserved
-loop-j-preserved c = let l = c.loop-j in
+pub loop-line-preserved : goal.loop-line-preserved
+loop-line-preserved c = let l = c.loop-line in
     let a = c.args in
-    let next = overall_next a.each.now a.outputs.now l.j c.loop-j-test.true in
+    let next = overall_next a.each.now a.outputs.now l.line-index c.loop-line-test.true in
     let here = ap (λ (k : ℕ). get_or a.each.now k 0) c.line_index.ensures.0 in
-    elim c.if-top-here.branch [ then-top-here w ↦ omega (arith, l.invariant, next, here, w.if-top-here.true) | else-top-here w ↦ omega (arith, l.invariant, next, here, w.if-top-here.false) ]
+    omega (arith, l.invariant, next, here, c.max-top.ensures)
 
 pub returns : goal.returns
-returns c = let l = c.loop-j in
-    let a = c.args in
-    omega (arith, l.invariant, overall_end a.each.now a.outputs.now l.j c.loop-j-test.false)
+returns c = let a = c.args in
+    omega (arith, c.loop-line.invariant, overall_end a.each.now a.outputs.now c.loop-line.line-index c.loop-line-test.false)

@@ -1,8 +1,8 @@
--- `circuit::gate::not` meets its contract: word by word, by computation. Assumes nothing.
-use mathlib.Core.Path.{refl}
-use Rattle.circuit.specs.Gate.{words_of}
+-- `circuit::gate::not` meets its contract: word by word. Assumes nothing.
+use borrow.Author.Rules.{rules}
+use Rattle.circuit.specs.Gate.{Kind}
+use Rattle.circuit.proofs.WordLaws.{words_are}
 use Rattle.circuit.proofs.gate.not.Goals as goal
 
 pub returns : goal.returns
-unfolding words_of
-returns c = refl
+returns c = words_are Kind.NOT c.args.a c.args.a _ (search rules) (search rules) (search rules) (search rules)

@@ -4,6 +4,3 @@ use Rattle.distance.proofs.table.take_into.Given as goal
 
 abbrev pub invariant-loop-q : goal.invariant-loop-q
 invariant-loop-q l = Part l.initial.h l.h l.m l.c (l.q * 4) (l.first * 4) (l.end * 4)
-
-abbrev pub decreases-loop-q : goal.decreases-loop-q
-decreases-loop-q l = l.q

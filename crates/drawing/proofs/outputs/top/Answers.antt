@@ -1,17 +1,18 @@
 use mathlib.Core.Path.{sym, ◌∙◌}
 use native.Mathlib.Nat.{sub-zero}
-use Rattle.formula.proofs.Table.{few-names}
-use Rattle.drawing.proofs.Searching.{top_end, top_on}
+use Prim.Native.Nat.{◌<◌}
+use Rattle.formula.specs.Names.{few_names}
+use native.Mathlib.Omega.{arith}
+use Rattle.drawing.proofs.Searching.{top_end, top_on, larger}
 use Rattle.drawing.proofs.outputs.top.Goals as goal
 
--- src/outputs.rt:119:5
 pub loop-i-init : goal.loop-i-init
-loop-i-init c = (rw c.few_names-count.ensures (few-names _), rw (c.few_names-count.ensures, sub-zero))
+loop-i-init c = rw sub-zero
 
--- src/outputs.rt:119:5
 pub loop-i-preserved : goal.loop-i-preserved
-loop-i-preserved c = (c.loop-i.invariant.0, c.loop-i.invariant.1 ∙ top_on _ _ _ _ _ c.loop-i-test.true c.larger-t.ensures)
+loop-i-preserved c =
+    let h : c.loop-i.i < few_names c.args.names.now.n = omega (arith, c.len-i-end.ensures.is, c.loop-i-test.true) in
+    c.loop-i.invariant ∙ top_on _ _ _ _ _ h (c.max-t.ensures ∙ larger _ _)
 
--- src/outputs.rt:113:1
 pub returns : goal.returns
-returns c = sym (c.loop-i.invariant.1 ∙ top_end _ _ _ _ c.loop-i-test.false)
+returns c = sym (c.loop-i.invariant ∙ top_end _ _ _ _ (omega (arith, c.len-i-end.ensures.is, c.loop-i-test.false)))

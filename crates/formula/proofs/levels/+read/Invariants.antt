@@ -1,10 +1,8 @@
-use Rattle.std.proofs.Common.{◌≡◌, ◌*◌, ◌+◌}
-use Rattle.formula.specs.declared.Gates.{Gates}
+use Rattle.std.proofs.Common.{◌*◌, ◌+◌, ◌-◌, length}
 use Rattle.formula.specs.Tree.{And, Xor, Or}
-use Rattle.formula.specs.Names.{name_of}
-use Rattle.formula.specs.Emit.{read_at, emitted}
+use Rattle.formula.specs.Names.{name_in}
 use Rattle.formula.specs.Levels.{not_of, and_of, xor_of, or_of}
-use Rattle.formula.proofs.Reading.{left_out, Going}
+use Rattle.formula.proofs.Reading.{Going}
 use Rattle.formula.proofs.levels.+read.Given as goal
 
 abbrev pub decreases-read_and : goal.decreases-read_and
@@ -22,29 +20,20 @@ decreases-read_paren l = l.left * 8 + 1
 abbrev pub decreases-read_xor : goal.decreases-read_xor
 decreases-read_xor l = l.left * 8 + 4
 
-abbrev pub invariant-read_and-loop-p : goal.invariant-read_and-loop-p
-invariant-read_and-loop-p l =
-    (g : Gates)
-    → read_at l.initial.rows l.initial.r ≡ emitted g (not_of l.s (name_of l.s l.low l.high l.lines l.n) l.left l.at)
-    → Going l.s And (not_of l.s (name_of l.s l.low l.high l.lines l.n) l.left) g (and_of l.s (name_of l.s l.low l.high l.lines l.n) l.left l.at) (read_at l.rows l.r)
+abbrev pub invariant-read_and-loop-gates : goal.invariant-read_and-loop-gates
+invariant-read_and-loop-gates l = Going l.s And (not_of l.s (name_in l.s l.names) l.left) l.fn.gates (and_of l.s (name_in l.s l.names) l.left l.at) l.gates l.p l.v
 
-abbrev pub decreases-read_and-loop-p : goal.decreases-read_and-loop-p
-decreases-read_and-loop-p l = left_out l.s l.r.out
+abbrev pub decreases-read_and-loop-gates : goal.decreases-read_and-loop-gates
+decreases-read_and-loop-gates l = length l.s - l.p
 
-abbrev pub invariant-read_or-loop-p : goal.invariant-read_or-loop-p
-invariant-read_or-loop-p l =
-    (g : Gates)
-    → read_at l.initial.rows l.initial.r ≡ emitted g (xor_of l.s (name_of l.s l.low l.high l.lines l.n) l.left l.at)
-    → Going l.s Or (xor_of l.s (name_of l.s l.low l.high l.lines l.n) l.left) g (or_of l.s (name_of l.s l.low l.high l.lines l.n) l.left l.at) (read_at l.rows l.r)
+abbrev pub invariant-read_or-loop-gates : goal.invariant-read_or-loop-gates
+invariant-read_or-loop-gates l = Going l.s Or (xor_of l.s (name_in l.s l.names) l.left) l.fn.gates (or_of l.s (name_in l.s l.names) l.left l.at) l.gates l.p l.v
 
-abbrev pub decreases-read_or-loop-p : goal.decreases-read_or-loop-p
-decreases-read_or-loop-p l = left_out l.s l.r.out
+abbrev pub decreases-read_or-loop-gates : goal.decreases-read_or-loop-gates
+decreases-read_or-loop-gates l = length l.s - l.p
 
-abbrev pub invariant-read_xor-loop-p : goal.invariant-read_xor-loop-p
-invariant-read_xor-loop-p l =
-    (g : Gates)
-    → read_at l.initial.rows l.initial.r ≡ emitted g (and_of l.s (name_of l.s l.low l.high l.lines l.n) l.left l.at)
-    → Going l.s Xor (and_of l.s (name_of l.s l.low l.high l.lines l.n) l.left) g (xor_of l.s (name_of l.s l.low l.high l.lines l.n) l.left l.at) (read_at l.rows l.r)
+abbrev pub invariant-read_xor-loop-gates : goal.invariant-read_xor-loop-gates
+invariant-read_xor-loop-gates l = Going l.s Xor (and_of l.s (name_in l.s l.names) l.left) l.fn.gates (xor_of l.s (name_in l.s l.names) l.left l.at) l.gates l.p l.v
 
-abbrev pub decreases-read_xor-loop-p : goal.decreases-read_xor-loop-p
-decreases-read_xor-loop-p l = left_out l.s l.r.out
+abbrev pub decreases-read_xor-loop-gates : goal.decreases-read_xor-loop-gates
+decreases-read_xor-loop-gates l = length l.s - l.p

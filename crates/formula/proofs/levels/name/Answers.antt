@@ -1,19 +1,14 @@
 use Rattle.formula.proofs.Table.{name_none, name_long, name_found, name_unknown}
-use Rattle.formula.specs.Emit.{gates_at}
 use Rattle.formula.proofs.levels.name.Goals as goal
 
--- src/levels.rt:119:9
 pub returns-then-e-p : goal.returns-then-e-p
-returns-then-e-p c = name_none _ _ _ _ (gates_at c.args.rows.now c.args.t) c.scan-e.ensures _ c.if-e-p.true c.fail.ensures
+returns-then-e-p c = name_none _ _ _ _ c.args.gates.now c.scan-e.ensures _ c.if-e-p.true c.fail.ensures
 
--- src/levels.rt:122:9
 pub returns-then-e-p-gt-LONGEST : goal.returns-then-e-p-gt-LONGEST
-returns-then-e-p-gt-LONGEST c = name_long _ _ _ _ (gates_at c.args.rows.now c.args.t) c.scan-e.ensures _ c.if-e-p.false c.if-e-p-gt-LONGEST.true c.fail-then-e-p-gt-LONGEST.ensures
+returns-then-e-p-gt-LONGEST c = name_long _ _ _ _ c.args.gates.now c.scan-e.ensures _ c.if-e-p.false c.if-e-p-gt-LONGEST.true c.fail-then-e-p-gt-LONGEST.ensures
 
--- src/levels.rt:105:1
-pub returns-in-Line : goal.returns-in-Line
-returns-in-Line c = name_found _ _ _ _ (gates_at c.args.rows.now c.args.t) c.scan-e.ensures _ _ _ _ c.if-e-p.false c.if-e-p-gt-LONGEST.false c.look_up.ensures c.in-Line.is (c.use_line-tip.ensures c.args.rows.now) c.scan.ensures
+pub returns-in_default : goal.returns-in_default
+returns-in_default c = name_unknown _ _ _ _ c.args.gates.now c.scan-e.ensures _ _ c.if-e-p.false c.if-e-p-gt-LONGEST.false c.look_up.ensures c.in_default.is c.fail-in_default.ensures
 
--- src/levels.rt:105:1
-pub returns-in-Nothing : goal.returns-in-Nothing
-returns-in-Nothing c = name_unknown _ _ _ _ (gates_at c.args.rows.now c.args.t) c.scan-e.ensures _ _ c.if-e-p.false c.if-e-p-gt-LONGEST.false c.look_up.ensures c.in-Nothing.is c.fail-in-Nothing.ensures
+pub returns : goal.returns
+returns c = name_found _ _ _ _ c.args.gates.now c.scan-e.ensures _ _ _ _ c.if-e-p.false c.if-e-p-gt-LONGEST.false c.look_up.ensures c.in-Some.is c.use_line.ensures c.scan.ensures

@@ -1,14 +1,10 @@
-use mathlib.Core.Path.{◌≡◌}
-use native.Mathlib.Omega.{arith}
-use Prim.Native.Nat.{ℕ}
-use borrow.Author.Tests.{lt-ltb, le-ltb}
-use Rattle.formula.specs.Text.{seen}
+use borrow.Author.Tests.{le-ltb}
+use mathlib.Core.Path.{refl}
+use Rattle.formula.proofs.Laws.{seen_here, seen_past}
 use Rattle.formula.proofs.text.sees.Goals as goal
 
 pub returns-then-p-s : goal.returns-then-p-s
-unfolding seen
-returns-then-p-s c = record { is = simp (lt-ltb _ _ c.if-p-s.true); within = λ e. c.if-p-s.true }
+returns-then-p-s c = seen_here _ _ _ _ c.if-p-s.true refl
 
 pub returns-else-p-s : goal.returns-else-p-s
-unfolding seen
-returns-else-p-s c = record { is = simp (le-ltb _ _ c.if-p-s.false); within = λ e. let z : ◌≡◌ {A = ℕ} 0 1 = cc in absurd (omega arith) }
+returns-else-p-s c = seen_past _ _ _ _ c.if-p-s.false (le-ltb _ _ c.if-p-s.false)

@@ -1,14 +1,16 @@
 -- `stored::reader::out_record` meets its contract. Assumes nothing.
-use mathlib.Core.Path.{ap, ◌∙◌, sym}
+use mathlib.Core.Path.{ap, ◌∙◌}
+use native.Mathlib.Omega.{arith}
 use Rattle.circuit.specs.Rules.{out_answer}
 use Rattle.stored.specs.Reading.{out_record}
+use Rattle.stored.proofs.Accept.{mark_is}
 use Rattle.stored.proofs.reader.out_record.Goals as goal
 
-pub returns-then-is_mark : goal.returns-then-is_mark
+pub returns-then-not-starts_with : goal.returns-then-not-starts_with
 unfolding out_record
-returns-then-is_mark c = let a = c.args in
-    c.check_output.ensures ∙ ap (out_answer a.lines) c.wide.ensures.0 ∙ simp (sym c.is_mark.ensures ∙ c.if-is_mark.true)
+returns-then-not-starts_with c = simp (mark_is c.args.part.now _ _ (omega arith) c.starts_with.ensures.value c.if-not-starts_with.true)
 
-pub returns-else-is_mark : goal.returns-else-is_mark
+pub returns : goal.returns
 unfolding out_record
-returns-else-is_mark c = simp (sym c.is_mark.ensures ∙ c.if-is_mark.false)
+returns c = c.check_output.ensures ∙ ap (out_answer c.args.lines) c.from.ensures
+    ∙ simp (mark_is c.args.part.now _ _ (omega arith) c.starts_with.ensures.value c.if-not-starts_with.false)

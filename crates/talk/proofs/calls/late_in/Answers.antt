@@ -6,22 +6,19 @@ use Rattle.script.specs.Order.{bytes_of}
 use Rattle.talk.proofs.Storing.{lent_long}
 use Rattle.talk.proofs.Building.{late_as, late_first}
 use Rattle.talk.proofs.calls.late_in.Goals as goal
-use Rattle.talk.proofs.calls.late_in.Goals.{After-at_most-lent}
+use Rattle.talk.proofs.calls.late_in.Goals.{After-min-lent}
 
 -- how long the lent part is
-size : (m : After-at_most-lent) → length (take m.at_most-lent.result m.args.room.now) ≡ m.at_most-lent.result
-size m = lent_long m.args.q.room m.args.room.now m.at_most-lent.ensures m.requires.1
+size : (m : After-min-lent) → length (take m.min-lent.result m.args.room.now) ≡ m.min-lent.result
+size m = lent_long m.args.q.room m.args.room.now m.min-lent.ensures (omega arith)
 
-pub slice_bounds-late_parts-end-3 : goal.slice_bounds-late_parts-end-3
-slice_bounds-late_parts-end-3 c = omega (arith, size (goal.at.slice_bounds-late_parts-end-3 c).After-at_most-lent)
-
-pub late_parts-requires : goal.late_parts-requires
-late_parts-requires c = let l = c.lay_three-ends.ensures in (l.two.order, (l.order, l.inside))
+pub slice_bounds-build_late-end-5 : goal.slice_bounds-build_late-end-5
+slice_bounds-build_late-end-5 c = omega (arith, size (goal.at.slice_bounds-build_late-end-5 c).After-min-lent)
 
 pub returns : goal.returns
-returns c = let w = c.late_parts in
-    let l = c.lay_three-ends.ensures in
+returns c = let w = c.build_late in
     let a = c.args in
+    let lent = c.min-lent.result in
     let line = a.line.now in
-    late_first a.q.n (bytes_of line a.q.arrivals) (bytes_of line a.q.rows) (bytes_of line a.q.limits) a.q.room c.at_most-lent.result (take c.at_most-lent.result a.room.now) (drop c.at_most-lent.result a.room.now) _ w.result
-    c.at_most-lent.ensures (size (goal.at.returns c).After-at_most-lent) (late_as l.two.first l.two.second l.third w.ensures)
+    late_first a.q.n (bytes_of line a.q.arrivals) (bytes_of line a.q.rows) (bytes_of line a.q.limits) a.q.room lent (take lent a.room.now) (drop lent a.room.now) _ w.result
+    c.min-lent.ensures (size (goal.at.returns c).After-min-lent) (late_as c.lay-come.ensures.bytes c.lay-end.ensures.bytes c.lay-most.ensures.bytes w.ensures)

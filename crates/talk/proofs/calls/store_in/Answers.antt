@@ -4,16 +4,17 @@ use native.Mathlib.Omega.{arith}
 use lib.ListN.{length, take, drop}
 use Rattle.talk.proofs.Storing.{lent_long, stores_first}
 use Rattle.talk.proofs.calls.store_in.Goals as goal
-use Rattle.talk.proofs.calls.store_in.Goals.{After-at_most-lent}
+use Rattle.talk.proofs.calls.store_in.Goals.{After-min-lent}
 
 -- how long the lent part is
-size : (m : After-at_most-lent) → length (take m.at_most-lent.result m.args.room.now) ≡ m.at_most-lent.result
-size m = lent_long m.args.size m.args.room.now m.at_most-lent.ensures m.requires
+size : (m : After-min-lent) → length (take m.min-lent.result m.args.room.now) ≡ m.min-lent.result
+size m = lent_long m.args.size m.args.room.now m.min-lent.ensures (omega arith)
 
 pub slice_bounds-store-end-2 : goal.slice_bounds-store-end-2
-slice_bounds-store-end-2 c = omega (arith, size (goal.at.slice_bounds-store-end-2 c).After-at_most-lent)
+slice_bounds-store-end-2 c = omega (arith, size (goal.at.slice_bounds-store-end-2 c).After-min-lent)
 
 pub returns : goal.returns
 returns c = let w = c.store in
     let a = c.args in
-    stores_first a.b a.size c.at_most-lent.result (take c.at_most-lent.result a.room.now) (drop c.at_most-lent.result a.room.now) _ w.result c.at_most-lent.ensures (size (goal.at.returns c).After-at_most-lent) w.ensures
+    let lent = c.min-lent.result in
+    stores_first a.b a.size lent (take lent a.room.now) (drop lent a.room.now) _ w.result c.min-lent.ensures (size (goal.at.returns c).After-min-lent) w.ensures

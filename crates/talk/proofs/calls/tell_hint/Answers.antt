@@ -5,4 +5,4 @@ use Rattle.talk.proofs.Telling.{answers}
 use Rattle.talk.proofs.calls.tell_hint.Goals as goal
 
 pub returns : goal.returns
-returns c = answers _ c.say_hint-len.ensures (λ p k. (k.is, ap hinted_text (c.hint-hinted.ensures p k)))
+returns c = answers _ c.say_hint-len.ensures (λ p k. (k.is, ap hinted_text (c.hint.ensures p k)))

@@ -5,4 +5,4 @@ use Rattle.talk.proofs.Telling.{answers}
 use Rattle.talk.proofs.calls.tell_report.Goals as goal
 
 pub returns : goal.returns
-returns c = answers _ c.say_reported-len.ensures (λ p k. (k.is, ap reported_text (c.report-reported.ensures p k)))
+returns c = answers _ c.say_reported-len.ensures (λ p k. (k.is, ap reported_text (c.report.ensures p k)))

@@ -1,6 +1,4 @@
 -- `talk::held::put_groups` meets its contract. The invariant: the groups so far are put. Assumes nothing.
-use mathlib.Core.Path.{◌≡◌, ap}
-use Prim.Native.Nat.{◌+◌}
 use native.Mathlib.Omega.{arith}
 use borrow.Author.Rules.{rules}
 use Rattle.text.proofs.Putting.{put-none, put_then, put_as}
@@ -11,22 +9,10 @@ use Rattle.talk.proofs.held.put_groups.Goals as goal
 
 pub loop-i-init : goal.loop-i-init
 unfolding lines_to
-loop-i-init c = let a = c.args in (search rules, search rules, search rules, search rules, search rules, search rules, search rules, search rules, put-none a.room.now a.at)
+loop-i-init c = record { so_far = search rules; put = put-none c.args.room.now c.args.at }
 
 pub loop-i-preserved : goal.loop-i-preserved
-loop-i-preserved c = let b = c.args.b in (
-  search rules,
-  search rules,
-  search rules,
-  search rules,
-  search rules,
-  search rules,
-  search rules,
-  search rules,
-  put_as (lines_next (group_in b) c.loop-i.i) (put_then (omega arith) c.loop-i.invariant.8 c.put_group-next.ensures.put),
-)
-
-pub returns : goal.returns
-returns c = let b = c.args.b in
-    let e : c.loop-i.i ≡ b.n + b.g = omega arith in
-    record { put = put_as (ap (lines_to (group_in b)) e) c.loop-i.invariant.8; upper_bound = search rules }
+loop-i-preserved c = record {
+  so_far = omega (arith, c.put_group-next.ensures.upper_bound);
+  put = put_as (lines_next (group_in c.args.b.now) c.loop-i.i) (put_then (omega arith) c.loop-i.invariant.put c.put_group-next.ensures.put);
+}

@@ -14,8 +14,8 @@ use Rattle.talk.proofs.lines.say_report.Goals as goal
 pub returns : goal.returns
 unfolding report_text
 returns c = let r = c.args.r in
-    let d = c.wide.ensures.0 in
-    let a = c.wide-2.ensures.0 in
+    let d = c.from.ensures in
+    let a = c.from-2.ensures in
     let three = put_then (omega arith) (put_then (omega arith) c.put_tally-counted.ensures.put (put_free (omega arith) c.put_labelled-depth.ensures)) (put_free (omega arith) c.put_labelled-ands.ensures) in
     let five = put_then (omega arith) (put_then (omega arith) three (put_free (omega arith) c.put-space.ensures)) c.put_verdict-judged.ensures.put in
     let e : _ ≡ report_text r =

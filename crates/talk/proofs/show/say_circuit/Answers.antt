@@ -21,5 +21,5 @@ returns c = let x = c.args.c in
     let lines = put_free (omega arith) c.put_lines-listed.ensures in
     let three = put_then (omega arith) (put_then (omega arith) counts (put_free (omega arith) c.put_labelled-ands.ensures)) (put_free (omega arith) c.put-start.ensures) in
     let five = put_then (omega arith) (put_then (omega arith) three lines) c.put_verdict-judged.ensures.put in
-    let e = ap (λ (d : ℕ). counts_text x.n x.m x.g r.depth ++ labelled and_depth_name d ++ new_line ++ lines_in x ++ verdict_text r.verdict ++ new_line) c.wide.ensures.0 in
+    let e = ap (λ (d : ℕ). counts_text x.n x.m x.g r.depth ++ labelled and_depth_name d ++ new_line ++ lines_in x ++ verdict_text r.verdict ++ new_line) c.from.ensures in
     said_as e (said (search rules) (put_then (omega arith) five (put_free (omega arith) c.put.ensures)))

@@ -1,19 +1,15 @@
 -- `talk::values::byte_end` meets its contract. Assumes nothing.
-use mathlib.Core.Path.{ap, ◌∙◌}
-use Prim.Native.Nat.{ℕ, ◌*◌, ◌%◌, ◌^◌}
+use mathlib.Core.Path.{◌≡◌, ap, ◌∙◌}
+use Prim.Native.Nat.{ℕ, ◌^◌, ◌≤◌, min}
 use native.Mathlib.Omega.{arith}
-use borrow.Author.Rules.{rules}
-use Rattle.talk.proofs.Packing.{one_shifted, few_bits, end_small, end_large, end_fits}
+use Rattle.talk.specs.Texts.{value_bits}
+use Rattle.talk.proofs.Packing.{one_shifted, end_fits}
 use Rattle.talk.proofs.values.byte_end.Goals as goal
 
-pub overflow_shl-result : goal.overflow_shl-result
-overflow_shl-result c = let n = c.args.n in omega (arith, one_shifted n c.requires, few_bits n (omega (arith, c.if-n-lt3.true)))
-
-pub returns-then-n-lt3 : goal.returns-then-n-lt3
-returns-then-n-lt3 c = let n = c.args.n in
-    let few = few_bits n (omega (arith, c.if-n-lt3.true)) in
-    let e = ap (λ (b : ℕ). (1 * 2 ^ b) % 2 ^ 64) (one_shifted n c.requires) ∙ one_shifted (2 ^ n) (omega arith) ∙ end_small n (omega (arith, c.if-n-lt3.true)) in
-    (e, omega (arith, e, end_fits n))
-
 pub returns : goal.returns
-returns c = (end_large c.args.n (omega arith), search rules)
+returns c = let n = c.args.n in
+    let bits = c.min-bits in
+    let few : bits.result ≤ 8 = omega (arith, bits.ensures) in
+    let same : bits.result ≡ value_bits n = bits.ensures ∙ ap (min 8) (one_shifted n c.requires) in
+    let e = one_shifted bits.result few ∙ ap (λ (b : ℕ). 2 ^ b) same in
+    (e, omega (arith, e, end_fits n))

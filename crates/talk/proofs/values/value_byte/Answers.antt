@@ -1,7 +1,9 @@
 -- `talk::values::value_byte` meets its contract. Assumes nothing.
-use mathlib.Core.Path.{ap, ◌∙◌}
-use Prim.Native.Nat.{ℕ, ◌*◌, ◌/◌, ◌%◌, ◌^◌, ◌<◌}
+
+use Prim.Native.Nat.{◌*◌, ◌/◌, ◌%◌, ◌^◌, ◌<◌}
 use native.Mathlib.Nat.{mod-lt}
+use lib.ListN.{get_or}
+use mathlib.Core.List.{[], ◌∷◌}
 use lib.Pow.{pow_pos}
 use native.Mathlib.Omega.{arith}
 use Rattle.talk.specs.Texts.{value_bits}
@@ -14,9 +16,9 @@ nonzero_rem-result-2 c = omega (arith, c.byte_end-end.ensures.0, pow_pos (value_
 pub overflow_cast-result : goal.overflow_cast-result
 overflow_cast-result c = let b = c.byte_end-end in
     let some : 0 < b.result = omega (arith, b.ensures.0, pow_pos (value_bits c.args.n)) in
-    omega (arith, b.ensures.1, mod-lt (c.word_at-word.result / 2 ^ (8 * (c.args.j % 8))) some)
+    omega (arith, b.ensures.1, mod-lt ((get_or (c.args.w.w0 ∷ c.args.w.w1 ∷ c.args.w.w2 ∷ c.args.w.w3 ∷ []) (c.args.j / 8) 0) / 2 ^ (8 * (c.args.j % 8))) some)
 
 pub returns : goal.returns
 returns c = let b = c.byte_end-end in
     let a = c.args in
-    ap (λ (v : ℕ). v / 2 ^ (8 * (a.j % 8)) % b.result) c.word_at-word.ensures ∙ byte_is a.w a.n a.j b.result b.ensures.0
+    byte_is a.w a.n a.j b.result b.ensures.0

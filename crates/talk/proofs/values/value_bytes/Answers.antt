@@ -3,7 +3,6 @@ use mathlib.Core.Path.{◌≡◌, refl, ap, ap₂, ◌∙◌}
 use mathlib.Core.List.{List}
 use Prim.Native.Nat.{ℕ}
 use native.Mathlib.Omega.{arith}
-use borrow.Author.Rules.{rules}
 use lib.ListN.{set}
 use Rattle.circuit.specs.Gate.{value_in}
 use Rattle.circuit.specs.Lines.{upto, padded}
@@ -14,20 +13,15 @@ use Rattle.talk.proofs.values.value_bytes.Goals as goal
 
 pub loop-j-init : goal.loop-j-init
 unfolding upto
-loop-j-init c = (search rules, search rules, search rules, search rules, refl)
+loop-j-init c = refl
 
 pub loop-j-preserved : goal.loop-j-preserved
 loop-j-preserved c = let l = c.loop-j in
-    let a = c.args in (
-      search rules,
-      search rules,
-      search rules,
-      search rules,
-      ap₂ (λ (b : List ℕ) (v : ℕ). set b l.j v) l.invariant.4 c.value_byte.ensures ∙ upto_put packed_most 0 (byte_of (value_in a.w) a.n) l.j _ refl (omega arith),
-    )
+    let a = c.args in
+    ap₂ (λ (b : List ℕ) (v : ℕ). set b l.j v) l.invariant c.value_byte.ensures ∙ upto_put packed_most 0 (byte_of (value_in a.w) a.n) l.j _ refl (omega arith)
 
 pub returns : goal.returns
 returns c = let l = c.loop-j in
     let a = c.args in
     let e : l.j ≡ value_bytes a.n = omega arith in
-    l.invariant.4 ∙ ap (λ (k : ℕ). padded packed_most 0 (upto (byte_of (value_in a.w) a.n) k)) e
+    l.invariant ∙ ap (λ (k : ℕ). padded packed_most 0 (upto (byte_of (value_in a.w) a.n) k)) e

@@ -1,6 +1,6 @@
 use mathlib.Core.Path.{◌≡◌}
 use mathlib.Core.List.{List}
-use Prim.Native.Nat.{ℕ, ◌≤◌, ◌-◌, ◌+◌}
+use Prim.Native.Nat.{ℕ, ◌-◌, ◌+◌}
 use lib.ListN.{get_or}
 use Rattle.circuit.specs.Gate.{bit}
 use Rattle.targets.specs.Wanted.{packed}
@@ -15,7 +15,4 @@ abbrev pub tail : List ℕ → ℕ → ℕ → ℕ → ℕ
 tail table from j b = packed (λ (i : ℕ). bits table from j (b + i)) (64 - b)
 
 abbrev pub invariant-loop-b : goal.invariant-loop-b
-invariant-loop-b l = (l.b ≤ 64) × (l.w ≡ tail l.table l.from l.j l.b)
-
-abbrev pub decreases-loop-b : goal.decreases-loop-b
-decreases-loop-b l = l.b
+invariant-loop-b l = l.w ≡ tail l.table l.from l.j l.b

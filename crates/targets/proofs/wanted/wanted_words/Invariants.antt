@@ -1,7 +1,7 @@
 use mathlib.Core.Path.{◌≡◌}
 use mathlib.Core.Bool.{Bool}
 use mathlib.Core.List.{List}
-use Prim.Native.Nat.{ℕ, ◌≤◌, ◌-◌, min}
+use Prim.Native.Nat.{ℕ}
 use Rattle.circuit.specs.declared.Words.{Words}
 use Rattle.circuit.specs.Sizes.{most_inputs, most_outputs}
 use Rattle.circuit.specs.Gate.{no_words}
@@ -14,7 +14,4 @@ abbrev pub want : Bool → List ℕ → ℕ → ℕ → Words
 want only bytes m = wanted_words (target_by only most_inputs m bytes)
 
 abbrev pub invariant-loop-j : goal.invariant-loop-j
-invariant-loop-j l = (l.j ≤ l.count) × (l.count ≡ min l.m most_outputs) × (l.wanted ≡ padded most_outputs no_words (upto (want l.only l.target l.count) l.j))
-
-abbrev pub decreases-loop-j : goal.decreases-loop-j
-decreases-loop-j l = l.count - l.j
+invariant-loop-j l = l.wanted ≡ padded most_outputs no_words (upto (want l.only l.target l.count) l.j)

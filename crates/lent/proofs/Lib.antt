@@ -1,2 +1,0 @@
--- The shapes of the lent bench and its answers.
-pub mod OnBench

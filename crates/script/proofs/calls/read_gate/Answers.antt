@@ -1,7 +1,0 @@
--- `calls::read_gate` meets its contract: what the line asks is the same from each word on. Assumes nothing.
-use mathlib.Core.Path.{◌∙◌}
-use Rattle.script.proofs.Meanings.{means_as}
-use Rattle.script.proofs.calls.read_gate.Goals as goal
-
-pub returns : goal.returns
-returns c = means_as (c.number_at-k.ensures.asks _ ∙ c.number_at-kind.ensures.asks _ ∙ c.number_at-a.ensures.asks _ ∙ c.number_at-b.ensures.asks _) c.finish.ensures

@@ -1,8 +1,0 @@
--- `talk::lines::say_reported` meets its contract. Assumes nothing.
-use Rattle.talk.proofs.lines.say_reported.Goals as goal
-
-pub returns-in-Given : goal.returns-in-Given
-returns-in-Given c = rw c.in-Given.is c.say_report.ensures
-
-pub returns-in-NotGiven : goal.returns-in-NotGiven
-returns-in-NotGiven c = rw c.in-NotGiven.is c.say_refused.ensures
