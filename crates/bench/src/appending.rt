@@ -26,6 +26,8 @@ fn look_at_append(bench: &Bench, kind: usize, a: usize, b: usize) -> Result<(), 
 
 // Adds a gate after the last one where it was looked at and nothing is refused. Its own line is examined and listed, and no
 // other: no gate reads it yet. This is what replacing a gate does at the first one that is not there, without its readers.
+// One bench, given back at one place, as in `rework`. The gate is read back from it: with the parameters themselves the proof did
+// not close, since the law of a turn speaks of the gate on the bench.
 fn extend(b: Bench, look: Result<(), Refusal>, kind: u8, first: u16, second: u16) -> Edited
     requires { look ≡ done → (b.n ≤ most_inputs) × (b.g < most_gates) }
     ensures { GateSet look b b.g kind first second result }

@@ -13,6 +13,7 @@ use targets::rules::value_fits;
 use targets::wanted::wanted_words;
 
 // What replacing gate k is refused for.
+// Kind and operands one by one, here and in the calls above it: C names them so.
 fn look_at_gate(bench: &Bench, k: usize, kind: usize, a: usize, b: usize) -> Result<(), Refusal>
     ensures { result ≡ gate_look bench.now k kind a b }
 {
@@ -109,6 +110,7 @@ fn enter(
 }
 
 // Changes row i of a matrix, mask and constant together, or the entry of input value i of a table, beside which the constant is 0.
+// One call for both kinds, as C has it: a table has no constant, and any but 0 is refused.
 pub fn change_entry(bench: Bench, i: usize, value: usize, constant: usize) -> Edited
     ensures { EntryPromise bench i value constant result.edit result.bench }
 {

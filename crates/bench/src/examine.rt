@@ -30,7 +30,8 @@ fn inputs_only(n: usize) -> [Words; LINES]
     values
 }
 
-// The bench with every line examined afresh. What the loop only reads is copied once, as in `rework`.
+// The bench with every line examined afresh. The turn of a gate is written out here, in `rework` and in `extend`: a function of it
+// would have a lent bench and a contract that is longer than its three lines. What the loop only reads is copied once, as in `rework`.
 pub(crate) fn examine(b: Bench) -> Bench
     requires { (b.n ≤ most_inputs) × (b.g ≤ most_gates) }
     ensures { result ≡ examined b }
@@ -57,6 +58,7 @@ pub(crate) fn examine(b: Bench) -> Bench
 }
 
 // Whether a gate is examined again: its line is marked, or one that it reads.
+// A function of three flags and not `||` in the loop: the loop has a step more to be proved for each `||`.
 fn is_reached(own: bool, a: bool, b: bool) -> bool
     ensures { result ≡ own || (a || b) }
 {

@@ -19,6 +19,7 @@ mod examine; // examine.rt: what each line has, afresh or for the readers of one
 #[repr(C)]
 #[derive(Clone, Copy)]
 pub struct Bench {
+    // Flags and columns and no enum: C's layout, in fixed memory.
     pub is_open: bool,
     pub is_matrix: bool,
     pub n: usize,
@@ -74,6 +75,7 @@ pub struct Report {
 }
 
 // The lines that an edit reworked, in ascending order, and how many; zeros past the last.
+// An array beside its count: no heap.
 #[derive(Clone, Copy)]
 pub struct Reworked {
     pub lines: [u16; LINES],
@@ -89,6 +91,7 @@ pub const NO_LINES: Reworked = Reworked {
 // What an edit answers.
 pub type Edit = Result<Reworked, Refusal>;
 
+// The bench beside the answer and not in it: an edit takes a bench and gives it back, refused or not.
 #[derive(Clone, Copy)]
 pub struct Edited {
     pub bench: Bench,

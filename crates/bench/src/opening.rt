@@ -49,6 +49,7 @@ pub fn empty() -> Bench
 }
 
 // The target's bytes, and zeros past the last.
+// As `first_depths` of `builder`, over another length: one for both would stand in a third crate for three lines.
 fn target_bytes(bytes: &[u8]) -> [u8; VALUES]
     requires { length bytes.now ≤ most_values }
     ensures { result ≡ padded most_values 0 bytes.now }
@@ -122,6 +123,7 @@ fn open_with(bench: Bench, bytes: &[u8], only: bool, target: &[u8], most: Limits
 
 // Opens a circuit with a matrix for its target. `rows` is the masks of the inputs summed into each output, and then the
 // constants that are added, a byte each.
+// Two calls that differ in a word, here and below: C and Rust callers name both.
 pub fn open_matrix(
     bench: Bench,
     bytes: &[u8],

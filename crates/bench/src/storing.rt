@@ -11,7 +11,7 @@ use stored::writer::write;
 pub fn circuit_of(b: Bench) -> Circuit
     ensures { result ≡ circuit_of b }
 {
-    // Each array has a name first, here and elsewhere: put from one struct straight into another it has no proof yet.
+    // Each array has a name first, here and elsewhere: put straight from or into a struct of C's layout it gets no proof.
     let kinds = b.kinds;
     let left = b.left;
     let right = b.right;

@@ -19,7 +19,7 @@ const INPUT: usize = 512;
 // Longer than any answer.
 const ROOM: usize = 8192;
 
-// A circuit: its counts and depth, its gates, its outputs.
+// A circuit: its counts and depth, its gates, its outputs. (Two clauses in each contract here: see `put_found` of `equations`.)
 fn put_circuit(out: &mut [u8; ROOM], c: Circuit) -> usize
     requires { shaped c.n c.m c.g ≡ true }
     ensures put { Put out.old 0 (listing_text (listed c)) out.new result }
@@ -56,6 +56,7 @@ fn answer(input: &[u8], out: &mut [u8; ROOM]) -> usize
     put_planned(out, builder::plan(n, &input[3..], depth))
 }
 
+// As `main` of `equations`, with rooms of its own.
 fn main(rt: HostRuntime) {
     let mut input = [0u8; INPUT];
     let count = read_full(&mut rt.stdin(), &mut input);

@@ -4,6 +4,7 @@ ghost use Rattle.circuit.specs.Sizes.{most_outputs};
 ghost use Rattle.distance.specs.Base.{Shallow};
 
 // The lines so far: a mask and a depth of each.
+// Not the `Base` of `distance`: the masks here are of 32 bits (docs/DECISIONS, 68).
 #[derive(Clone, Copy)]
 pub(crate) struct Base<'a> {
     pub(crate) masks: &'a [u32],

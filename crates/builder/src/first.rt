@@ -8,6 +8,7 @@ use distance::table::{Costs, cost};
 
 // More than any load: a mask's weight is counted in these, its load stands below, and in the table it says that there is no
 // such set.
+// The number of `distance`'s table for no set: its promises are minima of numbers, so that it is no Option.
 const FAR: u32 = 1048576;
 
 // The sums of the masks below 2^(i + 1): those below 2^i, and with input i each again.
@@ -42,6 +43,7 @@ pub(crate) fn first_table(inputs: &Inputs) -> Costs
     let mut h = [FAR; 2304];
     for t in 0..power(inputs.n) {
         let sum = sums[t];
+        // (`as usize`, here and below: there is no `usize::from` of a u32.)
         let weight = (sum / FAR) as usize;
         h[weight * 256 + t] = sum % FAR;
     }

@@ -25,6 +25,7 @@ pub(crate) struct State {
 }
 
 // A row's distance after a line.
+// `Capped` is asked in three contracts and no ghost field: the table is an array of `distance`.
 fn lower(h: &Costs, gap: u8, t: u32, limit: u8, line: Added) -> u8
     requires near { gap < 9 }
     requires capped { Capped h.now }
@@ -40,6 +41,7 @@ fn lower(h: &Costs, gap: u8, t: u32, limit: u8, line: Added) -> u8
 }
 
 // The rows' distances after a line, by a look-up each.
+// Rows, distances and table go one by one: the call has the rows, the state the distances, the loop the table.
 fn lowered(gaps: &[u8], rows: &Rows, h: &Costs, line: Added) -> [u8; OUTPUTS]
     requires { Lowering gaps.now rows.now.masks.now rows.now.limits.now h.now line.mask line.cost }
     ensures { result ≡ padded most_outputs 0 (next_gaps (misses_of h.now line.mask line.cost) gaps.now rows.now.masks.now rows.now.limits.now) }
@@ -97,6 +99,7 @@ pub(crate) fn grow(s: &mut State, rows: &Rows, h: &mut Costs)
     requires tabled { Tabled rows.now.masks.now rows.now.limits.now s.old h.old }
     ensures { Grown (base s.old) (rows_of rows.now.masks.now rows.now.limits.now) s.new }
 {
+    // A `while` on the state's own count: a second one in a `for` would say the same twice.
     while s.count < 224 {
         let Some(pair) = turn(s, rows, h) else {
             return;

@@ -19,6 +19,8 @@ use stored::writer::write;
 
 // The XOR program that the greedy rule gives for n inputs with these arrival depths, these rows and a depth limit for each
 // row, as a circuit.
+// Four parameters and no struct: C's `allpawasi_build_late` names them so, and nothing is known of them before `look`.
+// Each call has two forms, since C and Rust callers name both.
 pub fn plan_late(n: usize, arrivals: &[u8], rows: &[u8], limits: &[u8]) -> Result<Circuit, Refusal>
     ensures { result ≡ late_plan_of n arrivals.now rows.now limits.now }
 {
@@ -60,7 +62,7 @@ pub fn build_late(
     write(c, room)
 }
 
-// The same with one number for its answer: how many bytes, or 65,536 times the refusal's number.
+// The same with one number for its answer, as C takes it: how many bytes, or 65,536 times the refusal's number.
 pub fn build_late_no(
     n: usize,
     arrivals: &[u8],

@@ -42,6 +42,7 @@ struct Pick {
 
 // 0 where a line brings a goal one gate nearer, and 1 where the goal stays where it is. A line made from two of the base
 // takes off one gate at most, so that this look-up tells the new distance.
+// A number and no bool: each caller adds it.
 pub(crate) fn misses(h: &Costs, place: usize, room: u32, line: Added) -> u32
     requires in_table { place < 2048 }
     requires capped { Capped h.now }
@@ -85,6 +86,7 @@ fn weigh(base: &Base, goals: &[Goal], h: &Costs, top: u8, floor: u32) -> Pick
     requires { Weighing base.now.masks.now base.now.depths.now (places goals.now) (rooms goals.now) (lows goals.now) h.now top floor }
     ensures { let ls = base_of base.now.masks.now base.now.depths.now in all_pairs ls (goals_with (look_up h.now ls) (places goals.now) (rooms goals.now) (lows goals.now)) top (length base.now.masks.now) 0 start ≡ best result.total result.square (xor result.pair.a result.pair.b) }
 {
+    // Nothing chosen yet: the definition's `start`, which is more than any sum and so no Option.
     let mut pick = Pick {
         total: 4096,
         square: 0,

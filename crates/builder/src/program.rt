@@ -29,6 +29,7 @@ fn first_gaps(inputs: &Inputs, rows: &[u8]) -> [u8; OUTPUTS]
 }
 
 // The inputs' depths, first in an array for all lines.
+// As `target_bytes` of `bench`, over another length: one for both would stand in a third crate for three lines.
 fn first_depths(arrivals: &[u8]) -> [u8; LINES]
     requires { length arrivals.now ≤ most_lines }
     ensures { result ≡ padded most_lines 0 arrivals.now }

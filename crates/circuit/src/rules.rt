@@ -7,6 +7,7 @@ ghost use Rattle.circuit.specs.Rules.{shaped, operands_fit, gate_answer, out_ans
 use crate::{GATES, INPUTS, OUTPUTS, Refusal};
 
 // The numbers are in the ranges of a circuit.
+// Three numbers and no struct: the reader and the builder ask before there is a circuit.
 #[tactic(auto, unfolding(crate::specs::Rules::shaped))]
 pub fn is_shape(n: usize, m: usize, g: usize) -> bool
     ensures { result ≡ shaped n m g }

@@ -5,7 +5,7 @@
 --             rules::{is_shape, check_gate, check_output}, and, in the first half of their promise, line_index and refusal_no
 --   stored:   reader::read, restore::writing_code
 --   sweep:    sweep
---   distance: distance, distance_no, refusal_no, table::cost
+--   distance: distance, distance_no, bare_number, refusal_no, table::cost
 --   builder:  plan, plan_late
 --   formula:  text::{byte_at, span, scan}, keys::{low_key, high_key}, Names::{none, look_up}, Gates::none, and, in the first half of its promise,
 --             text::sees and Names::len

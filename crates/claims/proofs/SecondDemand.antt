@@ -35,7 +35,7 @@ use Rattle.distance.specs.declared.Refusal.TheVariants.{Inputs, Lists, Mask, Dep
 use Rattle.distance.specs.declared.Found.{Found}
 use Rattle.distance.specs.Base.{Line, none, Xor, base_of, inputs, arriving, run, weight, Small, Program, Fewest, SetOf, Smallest}
 use Rattle.distance.specs.Distance.{gates, never, distance, numbers, first_set, FirstSmallest}
-use Rattle.distance.specs.Query.{look_at, answered, answer_of, lines_of, found, found_of, with_lines, distance_no, query_refusal_no, where_sound}
+use Rattle.distance.specs.Query.{look_at, answered, answer_of, lines_of, found, found_of, bare_code, found_code, with_lines, distance_no, query_refusal_no, where_sound}
 use Rattle.distance.proofs.Sound.{found_some, found_never}
 use Rattle.distance.proofs.Theorems as distances
 use Rattle.builder.specs.Rule.{Row as BuilderRow, first_pair, rows_of, lowest, sum, taken, xor_gate, greedy_circuit}
@@ -275,8 +275,8 @@ module _ (n : ℕ) (ms ds : List ℕ) (t D : ℕ) (r : Result (Option Found) Que
     query_lines_only xs s = distances.query_lines_only n ms ds t D f.gates xs (lines_beside f) s query_lines
 
   -- Where there is no distance there are none.
-  pub query_no_lines : r ≡ Ok None → lines_of n ms ds t D ≡ []
-  query_no_lines e = distances.query_no_lines n ms ds t D looks (found_never n ms ds t D (sym meets ∙ e))
+  pub query_no_lines : r ≡ Ok None → (lines_of n ms ds t D ≡ []) × (found_code r ≡ bare_code 99)
+  query_no_lines e = (distances.query_no_lines n ms ds t D looks (found_never n ms ds t D (sym meets ∙ e)), ap found_code e)
 
 -- ---- The first pair that the rule takes for a row one gate away is the query's set of two lines: the same numbers.
 pub first_pair_is_set : (ls : List Line) (r : BuilderRow) → distance 8 ls r.mask r.limit ≡ gates 1

@@ -12,6 +12,7 @@ use circuit::{LINES, Refusal, refusal_no};
 use drawing::{BAD_NAME, BAD_TEXT, NO_OUTPUTS};
 
 // The bench after an open, and 0 or why it was refused.
+// Not one generic struct with those of `bench`: `OpenCode` and `OpenPromise` name their fields.
 #[derive(Clone, Copy)]
 pub struct Opened {
     pub bench: Bench,
@@ -159,6 +160,7 @@ pub fn append_gate(bench: Bench, kind: usize, a: usize, b: usize) -> Edited
 }
 
 // A verdict in three numbers.
+// The three fields of `ReportNumbers` that say a verdict to C.
 #[derive(Clone, Copy)]
 struct VerdictNumbers {
     verdict: usize,

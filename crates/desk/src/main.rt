@@ -9,6 +9,7 @@ use talk::OUT;
 const ROOM: usize = 65538;
 
 // Answers a line and writes the answer: the bench after it. The start of a long line was passed over, so nothing is read in it.
+// A flag and no Option: the flag outlives the turn, the slice does not.
 fn answer(output: &mut impl Write, b: Bench, line: &[u8], is_long: bool) -> io::Result<Bench> {
     if is_long {
         output.write_all(b"unreadable\n")?;

@@ -41,12 +41,12 @@ module _ (s : List ℕ) (b : Book) (xs : List ℕ) (ex : xs ≡ numbers_in s b) 
   sketch_whole c h e = rw (e, ← ex, ← ew, h)
 
 -- a file that was read, or not
-pub sketch_on : (s : List ℕ) (b : Book) → Ok b ≡ book_of s → sketch_book s b ≡ sketch_of s
+pub sketch_on : (s : List ℕ) (b : Book) (q : ℕ) → Ok (b, q) ≡ book_of s → sketch_book s b ≡ sketch_of s
 unfolding sketch_of
-sketch_on s b e = by (file_of s).step e
+sketch_on s b q e = by (file_of s).step e
   where
-    by : (r : Result ℕ Why) → Ok b ≡ book_by (file_of s).book r → sketch_book s b ≡ sketch_by s (file_of s).book r
-    by (Ok q) e = let k : b ≡ (file_of s).book = cc in ap (sketch_book s) k
+    by : (r : Result ℕ Why) → Ok (b, q) ≡ book_by (file_of s).book r → sketch_book s b ≡ sketch_by s (file_of s).book r
+    by (Ok p) e = let k : (b, q) ≡ ((file_of s).book, p) = cc in ap (λ (x : Book × ℕ). sketch_book s x.0) k
     by (Err w) e = let z : ◌≡◌ {A = ℕ} 0 1 = cc in absurd (omega arith)
 
 pub sketch_no : (s : List ℕ) (w : Why) → Err w ≡ book_of s → Err (refused_for w) ≡ sketch_of s

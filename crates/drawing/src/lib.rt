@@ -56,7 +56,7 @@ impl From<circuit::Refusal> for Refusal {
 fn draw(text: &[u8]) -> Result<Circuit, Refusal>
     ensures { result ≡ sketch_of text.now }
 {
-    let book = read_file(text)?;
+    let (book, _) = read_file(text)?;
     let numbers = numbers(text, &book);
     if !is_whole(&numbers, &book) {
         return Err(Refusal::NoOutputs);

@@ -11,6 +11,7 @@ use formula::{NAMES, Names};
 use sheet::Book;
 
 // The count of outputs where there are more than a circuit may have.
+// One too many is enough: storing refuses the circuit for its shape.
 const TOO_MANY_OUTPUTS: usize = OUTPUTS + 1;
 
 // A line as if there were 8 inputs, where there are n.
@@ -29,6 +30,7 @@ fn shift_all(n: u8, operands: &[u8; GATES]) -> [u16; GATES]
     ensures { result ≡ upto (λ (k : ℕ). shift_of n (get_or operands.now k 0)) most_gates }
 {
     let mut r = [0u16; GATES];
+    // By number: what is read and what is written have the same place.
     for k in 0..GATES {
         r[k] = shift(n, operands[k]);
     }

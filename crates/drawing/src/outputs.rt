@@ -13,6 +13,7 @@ fn digits(s: &[u8], from: usize, e: usize) -> usize
     ensures { result ≡ digits_from s.now (e - from) from 0 }
 {
     let mut v: usize = 0;
+    // By number: a place past the end counts too, as a byte 0.
     for i in from..e {
         let b = byte_at(s, i);
         if !b.is_ascii_digit() {
@@ -50,6 +51,7 @@ pub fn numbers(s: &[u8], book: &Book) -> [usize; NAMES]
     ensures { result ≡ numbers_of s.now book.now.starts book.now.names.n }
 {
     let mut r = [0usize; NAMES];
+    // By number: what is read and what is written have the same place.
     for i in 0..book.names.len() {
         r[i] = output_no(s, book.starts[i]);
     }
@@ -57,6 +59,7 @@ pub fn numbers(s: &[u8], book: &Book) -> [usize; NAMES]
 }
 
 // Whether x is one more than j.
+// Not `x == j + 1`: nothing bounds j here.
 fn is_after(x: usize, j: usize) -> bool
     ensures { result ≡ eqb x (j + 1) }
 {
@@ -64,9 +67,11 @@ fn is_after(x: usize, j: usize) -> bool
 }
 
 // The line of output j.
+// Each name's number in an array beside the book: the book's type is of `sheet`, and this is found once.
 pub fn out_line(numbers: &[usize; NAMES], names: &Names, j: usize) -> Option<u8>
     ensures { result ≡ out_line numbers.now names.now.lines names.now.n j }
 {
+    // By number: the number and the line of a name have the same place in two arrays.
     for i in 0..names.len() {
         if is_after(numbers[i], j) {
             return Some(names.lines[i]);
@@ -80,8 +85,8 @@ pub fn top(numbers: &[usize; NAMES], names: &Names) -> usize
     ensures { result ≡ top_of numbers.now names.now.n }
 {
     let mut t: usize = 0;
-    for i in 0..names.len() {
-        t = t.max(numbers[i]);
+    for &x in &numbers[..names.len()] {
+        t = t.max(x);
     }
     t
 }

@@ -19,7 +19,7 @@ const LONGEST: usize = 65535;
 // That many bytes, and one more: a room that is full holds too long a file.
 const INPUT: usize = 65536;
 
-// More than any stored form has: 5 + 5 * GATES + 3 * OUTPUTS bytes.
+// More than any stored form has: 5 + 5 * GATES + 3 * OUTPUTS bytes. As `STORED` of `talk`, on which this program does not rest.
 const STORED: usize = 2048;
 
 // Longer than any answer: two digits for each byte of a stored form, and the end of the line.
@@ -37,8 +37,8 @@ fn find_place(file: &[u8], place: usize) -> Spot
     ensures { (result.line ≡ line_of file.now place) × (result.column ≡ column_of file.now place) }
 {
     let end = place.min(file.len());
-    let mut ended = 0; // lines before this one
-    let mut passed = 0; // bytes of this line before the place
+    let mut ended: usize = 0; // lines before this one
+    let mut passed: usize = 0; // bytes of this line before the place
     for &byte in &file[..end] {
         if byte == text::LF {
             ended += 1;
@@ -53,6 +53,8 @@ fn find_place(file: &[u8], place: usize) -> Spot
     }
 }
 
+// What every answer here promises, `put` in the words of `text` and `prefix_len` in the library's, stands in two clauses: one
+// record of both would have to be taken apart at each call.
 // `refused N PLACE line L column C`.
 fn put_found(out: &mut [u8; ROOM], number: usize, place: usize, spot: Spot) -> usize
     ensures put { Put out.old 0 (found_text number place spot.line spot.column) out.new result }
@@ -65,6 +67,7 @@ fn put_found(out: &mut [u8; ROOM], number: usize, place: usize, spot: Spot) -> u
 }
 
 // `refused N`.
+// As `say_number` and `say_bytes` of `talk`, over another room: this program does not rest on `talk`.
 fn put_number(out: &mut [u8; ROOM], number: usize) -> usize
     ensures put { Put out.old 0 (labelled refused_name number ++ new_line) out.new result }
     ensures prefix_len { IsPrefixLen result out.new }

@@ -13,6 +13,7 @@ fn odd_after(fold: bool, odd: bool) -> bool
 }
 
 // The line of the next gate; 0 where there is no room for it.
+// A line and no Option: with too many gates the text is read to its end, and then refused.
 fn new_line(count: usize) -> u8
     ensures { result ≡ new_line count }
 {
@@ -42,6 +43,7 @@ impl Gates {
     }
 
     // A refusal, with no gates beside it.
+    // The gates are emptied, since the promise `failed` says them of a refusal too.
     pub fn fail(&mut self, why: Why) -> Why
         ensures { read_at self.new (Err result) ≡ failed why }
     {

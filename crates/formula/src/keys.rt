@@ -23,6 +23,7 @@ fn part(s: &[u8], from: usize, to: usize) -> u64
     ensures { result ≡ part_of s.now (to - from) from 0 }
 {
     let mut v: u64 = 0;
+    // By number: a place past the end counts too, as a byte 0.
     for i in from..to {
         v = append(v, byte_at(s, i));
     }
@@ -37,6 +38,7 @@ fn half(p: usize, e: usize) -> usize
 }
 
 // The first half of a name's key.
+// A name goes by its text and its two ends: the clauses of the definitions name all three.
 pub fn low_key(s: &[u8], p: usize, e: usize) -> u64
     ensures { result ≡ low_key s.now p e }
 {
@@ -58,6 +60,7 @@ fn is_key(x: u64, y: u64, a: u64, b: u64) -> bool
 }
 
 // Whether one of the four places from i on has the half a. All four are looked at, with no choice between them.
+// As `in_four` of `sweep`, over another length: their promises are of two definitions, `Passed` and `Misses`.
 fn near_four(halves: &[u64; NAMES], i: usize, a: u64) -> bool
     requires { i + 4 ≤ most_names }
     ensures { result ≡ false → Passed halves.now a i (i + 4) }
@@ -70,6 +73,7 @@ fn near_four(halves: &[u64; NAMES], i: usize, a: u64) -> bool
 }
 
 // Whether one of the block of places from i on has the half a.
+// The bound of a block stands in three contracts: a type for it would be longer.
 fn near(halves: &[u64; NAMES], i: usize, a: u64) -> bool
     requires { i + block ≤ most_names }
     ensures { result ≡ false → Passed halves.now a i (i + block) }

@@ -25,6 +25,7 @@ fn wrap(s: &[u8], at: usize, to: usize, gates: &mut Gates, v: u8) -> u8
 }
 
 // A name, and the spaces after it.
+// Text, names and gates go one by one: of a struct with lent gates in it a caller would not know what became of them.
 fn name(s: &[u8], names: &Names, p: usize, gates: &mut Gates) -> Result<(usize, u8), Why>
     ensures { read_at gates.new result ≡ emitted gates.old (name_in s.now names.now p) }
 {

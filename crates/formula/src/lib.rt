@@ -31,6 +31,7 @@ pub enum Class {
 // Gates in the order in which they were made. An operand is an input's number, or 8 and a gate's number: how many inputs
 // there are is not known before the file's end. `high` is one more than the highest input that was read. `fold`: what was
 // read last is a binary operator's gate. `odd`: some ~ stood before anything else.
+// Columns as a circuit has them, in fixed arrays: no heap.
 #[derive(Clone, Copy)]
 pub struct Gates {
     pub kinds: [u8; GATES],

@@ -19,6 +19,7 @@ pub fn sees(s: &[u8], p: usize, b: u8) -> bool
 }
 
 // How many places there are from p to e.
+// A name for what the definitions write as e - p.
 pub fn span(p: usize, e: usize) -> usize
     ensures { result ≡ e - p }
 {
@@ -26,6 +27,7 @@ pub fn span(p: usize, e: usize) -> usize
 }
 
 // A letter or a digit.
+// Written out, as the definition `is_letter` has the three ranges.
 #[tactic(auto, unfolding(crate::specs::Text::is_letter))]
 fn is_letter(b: u8) -> bool
     ensures { result ≡ is_letter b }
@@ -46,10 +48,11 @@ fn in_class(c: Class, b: u8) -> bool
 }
 
 // The first place from `at` on whose byte is not in a class.
+// As `place_past` of `text`, on which this crate does not rest.
 pub fn scan(s: &[u8], at: usize, c: Class) -> usize
     ensures { result ≡ past (in_class c) s.now at }
 {
-    // The place where the loop stops is the answer, so no `for` is plainer.
+    // The place where the loop stops is the answer: with a `for` the end of the text would be a second one.
     let mut p = at;
     while p < s.len() && in_class(c, s[p]) {
         p += 1;

@@ -1,6 +1,6 @@
 -- A hint: how far a row of the open matrix is from the lines of the open circuit, and from which of them. Constants do not count:
 -- of a row its mask alone, and of a line behind XNOR or NOT the inputs that it sums.
-use Rattle.std.specs.Prelude.{◌≡◌, Option, Some, None, Result, Ok, Err, cond, List, [], map, ℕ, ◌+◌, leb, ltb, length, get_or}
+use Rattle.std.specs.Prelude.{◌≡◌, Option, Some, None, Result, Ok, Err, cond, List, map, ℕ, ◌+◌, leb, ltb, length, get_or}
 use Rattle.circuit.specs.declared.Refusal.{Refusal}
 use Rattle.circuit.specs.declared.Refusal.TheVariants.{Shape, Length, Target as BadTarget, TooDeep, NotThere, NothingOpen}
 use Rattle.circuit.specs.Lines.{Listing, gate_at, depths}

@@ -5,13 +5,12 @@ ghost use Rattle.std.specs.Prelude.{◌≡◌, ◌≤◌};
 ghost use Rattle.circuit.specs.Sizes.{most_inputs, most_gates, most_lines};
 ghost use Rattle.circuit.specs.Lines.{padded};
 ghost use Rattle.circuit.specs.Rows.{input_masks};
-ghost use Rattle.distance.specs.Query.{bare_code};
 ghost use Rattle.hint.specs.Hint.{hint_refusal, HintPromise, HintCode};
 ghost use Rattle.hint.specs.Parts.{read_sum, masks_on, gathered, numbered, hint_on, is_row};
 
 use bench::Bench;
 use circuit::{LINES, Refusal, line_index, low16, refusal_no};
-use distance::{Found, FoundNumbers, Lines, distance};
+use distance::{Found, FoundNumbers, Lines, bare_number, distance};
 
 // The lines that a hint counts from: what each sums, its depth and its number in the circuit. Zeros past the last. No heap: the
 // count stands beside fixed arrays.
@@ -90,6 +89,7 @@ fn numbers_of(lines: &[u16; LINES], places: &Lines, count: usize) -> Lines
     ensures { result ≡ numbered lines.now places.now count }
 {
     let mut numbers = [0u16; 8];
+    // By number: what is read and what is written have the same place.
     for k in 0..count {
         numbers[k] = lines[line_index(places[k])];
     }
@@ -147,19 +147,7 @@ pub fn hint(bench: Bench, j: usize, d: usize) -> Result<Option<Found>, Refusal>
     ask(&bench, usize::from(bench.target[j]), d)
 }
 
-// A number with no lines beside it.
-fn bare_number(code: u64) -> FoundNumbers
-    ensures { result ≡ bare_code code }
-{
-    let lines = [0u16; 8];
-    FoundNumbers {
-        code,
-        count: 0,
-        lines,
-    }
-}
-
-// The same in numbers.
+// The same in numbers, as C takes it.
 pub fn hint_no(bench: Bench, j: usize, d: usize) -> FoundNumbers
     ensures { HintCode bench j d result }
 {
@@ -173,6 +161,7 @@ pub fn hint_no(bench: Bench, j: usize, d: usize) -> FoundNumbers
             }
         }
         Ok(None) => bare_number(99),
+        // (`as u64`: there is no `u64::from` of a usize.)
         Err(why) => bare_number(100 + refusal_no(why) as u64),
     }
 }

@@ -10,6 +10,7 @@ pub fn read_full(input: &mut impl Read, room: &mut [u8]) -> usize
     ensures { IsPrefixLen result room.new }
 {
     let mut count = 0;
+    // A `while`: each turn goes on by as many bytes as were read.
     while count < room.len() {
         let got = input.read(&mut room[count..]).unwrap_or(0);
         if got == 0 {

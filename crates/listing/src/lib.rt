@@ -26,6 +26,7 @@ struct Operands {
 // The name of a line of a circuit with n inputs.
 // (Here and below `room` and `at` go side by side. Tried: a struct that holds both with methods that put. The method is proved, but its caller
 // knows nothing of the room that it lent: what a `&mut` field leaves behind is not tied to what the last method left in it.)
+// The bound of one line stands in three contracts: a struct for it would have that one field.
 fn put_name(room: &mut [u8], at: usize, n: usize, line: usize) -> usize
     requires { (at + 4 ≤ length room.old) × (line < most_lines) }
     ensures put { Put room.old at (line_name n line) room.new result }
@@ -88,6 +89,7 @@ fn put_formula(room: &mut [u8], at: usize, kind: u8, q: Operands) -> usize
 }
 
 // The line of gate k.
+// One function for this and `put_output` would take what stands between ` = ` and the line's end as a closure over the room.
 fn put_gate(room: &mut [u8], at: usize, k: usize, kind: u8, q: Operands) -> usize
     requires { (at + 22 ≤ length room.old) × (k < most_gates) }
     ensures put { Put room.old at (gate_line q.n k (gate kind q.left q.right)) room.new result }

@@ -30,6 +30,7 @@ fn differing(b: &Bench) -> Words
 fn lowest_bit(word: u64) -> usize
     ensures { result ≡ least (λ i. eqb (bit i word) 1) 64 0 }
 {
+    // (`as usize`: there is no `usize::from` of a u32.)
     word.trailing_zeros() as usize
 }
 
@@ -57,16 +58,8 @@ fn value_in(w: Words, x: usize) -> u64
     requires { x < most_values }
     ensures { result ≡ value_in w x }
 {
-    if x < 64 {
-        return (w.w0 >> x) % 2;
-    }
-    if x < 128 {
-        return (w.w1 >> (x - 64)) % 2;
-    }
-    if x < 192 {
-        return (w.w2 >> (x - 128)) % 2;
-    }
-    (w.w3 >> (x - 192)) % 2
+    let words = [w.w0, w.w1, w.w2, w.w3];
+    (words[x / 64] >> (x % 64)) % 2
 }
 
 // The smallest output that differs on input value x; or m, though it is asked only where one does.

@@ -9,6 +9,8 @@ use crate::{
 };
 
 // `open HEX matrix HEX G D A` or `open HEX table HEX G D A`.
+// What they share is in `Words`; each has its own words and fields.
+// `Second` is asked and no ghost field: only `open`, `build`, `late`, `distance` and `equations` need it.
 pub(crate) fn read_open(mut words: Words) -> Option<Call>
     requires { Second words }
     ensures { Reads words.entry open_rest result }

@@ -11,6 +11,7 @@ mod words; // words.rt: one word of a line, as a number, a limit, bytes or the k
 mod calls; // calls.rt: a function for each call, over the words after the first
 
 // A word of hexadecimal digits stands from `from` to `to`; an empty part where the word is `-`.
+// Not `text::Word`, which is never empty.
 #[derive(Clone, Copy)]
 pub struct Part {
     pub from: usize,
@@ -163,6 +164,7 @@ fn bytes_call(word: &[u8], words: Words) -> Option<Call>
 }
 
 // An edit, or a call that brings or takes bytes.
+// By tests one after another, as in `bytes_call`.
 #[tactic(auto, unfolding(crate::specs::Reading::by_word))]
 fn edit_call(word: &[u8], words: Words) -> Option<Call>
     requires { Second words }

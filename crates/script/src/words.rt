@@ -45,6 +45,7 @@ impl<'a> Words<'a> {
     {
         let word = self.word()?;
         let value = text::read_number(&self.line[word.from..word.to])?;
+        // (`as usize`: there is no `usize::from` of a u64.)
         Some(value as usize)
     }
 

@@ -109,7 +109,7 @@ module _ (s : List ℕ) where
     opened zero h = absurd (omega arith)
     opened (suc f) h = let k : suc f - 1 ≡ f = omega arith in rw (eq, k)
 
-    pub over : length s ≤ q → Ok b ≡ book_of s
+    pub over : length s ≤ q → Ok (b, q) ≡ book_of s
     over h =
         let k : record { book = b; step = Ok q } ≡ file_of s = sym (opened r.fuel r.enough ∙ rw (le-leb _ _ h)) ∙ r.same in
         ap (λ (x : Sheet). book_by x.book x.step) k

@@ -85,11 +85,11 @@ filed s (suc f) p b =
 abbrev pub file_of : List ℕ → Sheet
 file_of s = filed s (suc (length s)) 0 no_book
 
--- a book that was read to its end, or why it was not
-abbrev pub book_by : Book → Result ℕ Why → Result Book Why
-book_by b (Ok q) = Ok b
+-- a book and where it ends, or why it was not read
+abbrev pub book_by : Book → Result ℕ Why → Result (Book × ℕ) Why
+book_by b (Ok q) = Ok (b, q)
 book_by b (Err w) = Err w
 
--- the book of a file
-abbrev pub book_of : List ℕ → Result Book Why
+-- the book of a file, and where the file ends
+abbrev pub book_of : List ℕ → Result (Book × ℕ) Why
 book_of s = book_by (file_of s).book (file_of s).step

@@ -13,6 +13,7 @@ use formula::text::{scan, sees};
 use formula::{Class, Gates, LONGEST, NAMES, NESTING, Names, Why};
 
 // The names that were set, and where each stands in the text; and the gates.
+// `starts` goes with the columns of `names`: formulas have no use for it.
 #[derive(Clone, Copy)]
 pub struct Book {
     pub names: Names,
@@ -48,6 +49,7 @@ fn assign(s: &[u8], names: &Names, p: usize, gates: &mut Gates) -> Result<(usize
     if NAMES <= names.n {
         return Err(gates.fail(Why::Text(p)));
     }
+    // A name's end is tested as in `name` of `formula`: each has a promise of its own for it (`assigning`, `name_in`).
     let e = scan(s, p, Class::Letter);
     if e <= p {
         return Err(gates.fail(Why::Text(p)));
@@ -81,8 +83,8 @@ fn set_name(names: &mut Names, s: &[u8], p: usize, v: u8)
     names.n += 1;
 }
 
-// The whole file: blank lines and assignments to its end.
-pub fn read_file(s: &[u8]) -> Result<Book, Why>
+// The whole file, blank lines and assignments to its end: its names and gates, and where it ends.
+pub fn read_file(s: &[u8]) -> Result<(Book, usize), Why>
     ensures { result ≡ book_of s.now }
 {
     let mut book = no_book();
@@ -90,7 +92,7 @@ pub fn read_file(s: &[u8]) -> Result<Book, Why>
     loop {
         let q = scan(s, p, Class::Blank);
         if s.len() <= q {
-            return Ok(book);
+            return Ok((book, q));
         }
         if s[q] == b'\n' {
             p = q + 1;

@@ -50,10 +50,12 @@ fn check_gates(bytes: &[u8], only: bool, n: usize, g: usize) -> Result<(), Refus
 
 // The outputs' records, one after the other. A loop for both kinds of record would need a closure, and a contract for it that
 // says more than these two lines.
+// The two bounds stand in three contracts: two are of bytes and one of a room, so that no one struct has them.
 fn check_outputs(bytes: &[u8], lines: usize, from: usize, m: usize) -> Result<(), Refusal>
     requires { (m ≤ most_outputs) × (from + 3 * m ≤ length bytes.now) }
     ensures { result ≡ answers (out_here lines) 3 0 m (drop from bytes.now) }
 {
+    // By number and not by chunks: `answers` gives each record the bytes from its first on.
     for j in 0..m {
         out_record(lines, &bytes[from + 3 * j..])?;
     }

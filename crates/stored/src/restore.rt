@@ -7,6 +7,7 @@ use crate::writer::write;
 use circuit::{Refusal, refusal_no};
 
 // An answer as one number: how many bytes were written, or 65,536 times the refusal's number.
+// One number: `allpawasi_restore`, `allpawasi_store` and `allpawasi_build` give it to C.
 pub fn writing_code(w: Result<usize, Refusal>) -> usize
     ensures { result ≡ writing_code w }
 {

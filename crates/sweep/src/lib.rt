@@ -14,6 +14,7 @@ use circuit::rules::is_shape;
 use circuit::{Circuit, GATES, LINES, OUTPUTS, line_index, low16};
 
 // The gates kept, and the new line of each line.
+// Columns as a circuit has them, in fixed arrays beside their count: no heap.
 #[derive(Clone, Copy)]
 pub struct Merging {
     pub count: usize,
@@ -29,8 +30,8 @@ fn named(c: Circuit) -> [bool; LINES]
     ensures { result ≡ marked (upto (out_of c) c.m) }
 {
     let mut marks = [false; LINES];
-    for i in 0..c.m {
-        marks[line_index(c.outputs[i])] = true;
+    for &line in &c.outputs[..c.m] {
+        marks[line_index(line)] = true;
     }
     marks
 }
@@ -70,6 +71,7 @@ fn key_of(kind: u8, a: u16, b: u16) -> u64
 
 // Whether one of the four keys from i on is this one. All are looked at, with no choice between them, so that several are
 // compared at once.
+// As `near_four` of `formula`, over another length: their promises are of two definitions, `Misses` and `Passed`.
 fn in_four(keys: &[u64; GATES], i: usize, key: u64) -> bool
     requires { i + 4 ≤ most_gates }
     ensures { result ≡ false → Misses key (λ (j : ℕ). get_or keys.now j 0) i 4 }
@@ -92,12 +94,13 @@ fn in_eight(keys: &[u64; GATES], i: usize, key: u64) -> bool
 }
 
 // How many keys from the first on, by eights, are passed over since none of them is this one.
+// The whole array and a count: four places of a fixed array are read with one bound.
 fn pass_over(keys: &[u64; GATES], count: usize, key: u64) -> usize
     requires { count ≤ most_gates }
     ensures { (result ≤ count) × Misses key (λ (j : ℕ). get_or keys.now j 0) 0 result }
 {
     let mut i: usize = 0;
-    // A `while`: steps of eight, as long as eight are left.
+    // A `while`: of `for k in 0..count / 8` the body would say 8 * k twice, and the end of the eights once more after the loop.
     while i + 8 <= count {
         if in_eight(keys, i, key) {
             return i;
@@ -183,11 +186,13 @@ fn merge(c: Circuit, live: [bool; LINES]) -> Merging
 }
 
 // The outputs with their new lines.
+// As `numbers_of` of `hint`, over another length: one for both would have a contract longer than its loop.
 fn point_outs(old: [u16; OUTPUTS], m: usize, new: [u16; LINES]) -> [u16; OUTPUTS]
     requires { m ≤ most_outputs }
     ensures { result ≡ padded most_outputs 0 (upto (λ (i : ℕ). get_or new (line_in (get_or old i 0)) 0) m) }
 {
     let mut outs = [0u16; OUTPUTS];
+    // By number: what is read and what is written have the same place.
     for i in 0..m {
         outs[i] = new[line_index(old[i])];
     }

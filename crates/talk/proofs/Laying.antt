@@ -1,7 +1,7 @@
 -- A word of a line as bytes, first in a room. Assumes nothing.
 use mathlib.Core.Path.{◌≡◌, ap, ◌∙◌}
 use mathlib.Core.List.{List}
-use Prim.Native.Nat.{ℕ, ◌+◌, ◌-◌, ◌/◌, ◌≤◌}
+use Prim.Native.Nat.{ℕ, ◌-◌, ◌/◌, ◌≤◌}
 use native.Mathlib.Omega.{arith}
 use lib.ListN.{length, drop, length-drop}
 use lib.Seq.{length-take-le}
@@ -12,8 +12,6 @@ use Rattle.text.proofs.Putting.{put_as, put_free}
 use Rattle.script.specs.declared.Part.{Part}
 use Rattle.script.specs.Order.{digits_in, bytes_of}
 use Rattle.script.specs.Placed.{HexPart}
-use Rattle.talk.specs.Saying.{LaidFirst}
-use Rattle.talk.proofs.Spoken.{said, first_bytes}
 
 -- how many digits a part has
 pub digits_long : (line : List ℕ) (p : Part) → HexPart line p → length (digits_in line p) ≡ p.to - p.from
@@ -23,11 +21,7 @@ digits_long line p h = length-take-le (p.to - p.from) (drop p.from line) (omega 
 pub bytes_long : (line : List ℕ) (p : Part) → HexPart line p → length (bytes_of line p) ≡ (p.to - p.from) / 2
 bytes_long line p h = bytes_length (digits_in line p) ∙ ap (λ (n : ℕ). n / 2) (digits_long line p h)
 
--- where there is room for them they are put
-pub bytes_put : (line : List ℕ) (p : Part) {before after : List ℕ} {at r : ℕ} → HexPart line p → at + (p.to - p.from) / 2 ≤ length before
-    → PutFree before at (length (digits_in line p) / 2) (bytes_said (digits_in line p)) after r → Put before at (bytes_of line p) after r
+-- where there is room for them they are put first
+pub bytes_put : (line : List ℕ) (p : Part) {before after : List ℕ} {r : ℕ} → HexPart line p → (p.to - p.from) / 2 ≤ length before
+    → PutFree before 0 (length (digits_in line p) / 2) (bytes_said (digits_in line p)) after r → Put before 0 (bytes_of line p) after r
 bytes_put line p h l u = put_as (bytes-said (digits_in line p) h.digits) (put_free (omega (arith, digits_long line p h)) u)
-
--- they stand first
-pub laid_first : (line : List ℕ) (p : Part) {before after : List ℕ} {end : ℕ} → Put before 0 (bytes_of line p) after end → end ≤ length after → LaidFirst line after p end
-laid_first line p h l = let s = said l h in record { counts = s.counts; bytes = first_bytes s }

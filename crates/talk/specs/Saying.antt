@@ -17,8 +17,6 @@ use Rattle.bench.specs.Parts.{open_on}
 use Rattle.text.specs.Numbers.{labelled}
 use Rattle.text.specs.Putting.{Put}
 use Rattle.listing.specs.Printed.{new_line, refused_text, counts_text, lines_in, lines_to}
-use Rattle.script.specs.declared.Part.{Part}
-use Rattle.script.specs.Order.{bytes_of}
 use Rattle.talk.specs.Words.{and_depth_name, held_name}
 use Rattle.talk.specs.Texts.{verdict_text, hex_line, written_text, drawn_text, group_text, values_text}
 
@@ -66,11 +64,6 @@ shown_with c r =
 abbrev pub shown_in : Circuit → Result Report Refusal → List ℕ
 shown_in c (Ok r) = shown_with c r
 shown_in c (Err w) = refused_text w
-
--- the bytes of one part stand first in a room, `end` of them
-pub record LaidFirst (line room : List ℕ) (p : Part) (end : ℕ) : Type 0 where
-  pub counts : IsPrefixLen end room
-  pub bytes : take end room ≡ bytes_of line p
 
 -- what a bench stored for a room so long stands first in a room, or the refusal is told
 pub record StoresFirst (b : Bench) (size : ℕ) (r : Writing) (room : List ℕ) : Type 0 where

@@ -1,5 +1,5 @@
 // A function for each call: the call on the bench by value, and its answer said.
-ghost use Rattle.std.specs.Prelude.{◌≡◌};
+ghost use Rattle.std.specs.Prelude.{◌≡◌, ◌+◌, ◌-◌, ◌/◌, ◌≤◌, length};
 ghost use Rattle.stored.specs.Stored.{stored};
 ghost use Rattle.builder.specs.Call.{built, build_answer};
 ghost use Rattle.builder.specs.Late.{late_built, late_answer};
@@ -11,7 +11,7 @@ ghost use Rattle.script.specs.Order.{bytes_of, unreadable, ask_new, ask_report, 
 ghost use Rattle.script.specs.Placed.{HexPart, HexParts, HexThree};
 ghost use Rattle.talk.specs.Texts.{edit_text};
 ghost use Rattle.talk.specs.Talk.{Answers};
-ghost use Rattle.talk.specs.Saying.{Said, LaidFirst, StoresFirst, WrittenFirst, DrawsFirst};
+ghost use Rattle.talk.specs.Saying.{Said, StoresFirst, WrittenFirst, DrawsFirst};
 
 use crate::held::say_held;
 use crate::lines::{
@@ -52,12 +52,15 @@ pub(crate) fn tell_new(b: Bench, out: &mut [u8; OUT]) -> Told
     Told { bench, len }
 }
 
-// The bytes that a part of a line says, from the start of the room.
-fn lay(line: &[u8], p: Part, room: &mut [u8; HEX]) -> usize
-    requires { HexPart line.now p }
-    ensures { LaidFirst line.now room.new p result }
+// The bytes that a part of a line says, first in a room, and the rest of the room.
+fn lay<'a>(line: &[u8], p: Part, room: &'a mut [u8]) -> (&'a mut [u8], &'a mut [u8])
+    requires digits { HexPart line.now p }
+    requires fits { (p.to - p.from) / 2 ≤ length room.old }
+    ensures bytes { result.0.now ≡ bytes_of line.now p }
+    ensures rest { length result.1.now + (p.to - p.from) / 2 ≡ length room.old }
 {
-    text::put_unhex(room, 0, &line[p.from..p.to])
+    let end = text::put_unhex(room, 0, &line[p.from..p.to]);
+    room.split_at_mut(end)
 }
 
 // An open with a target of either kind.
@@ -72,6 +75,7 @@ fn open_with(b: Bench, matrix: bool, bytes: &[u8], target: &[u8], o: Opening) ->
 }
 
 // `open HEX matrix HEX G D A` or `open HEX table HEX G D A`.
+// Bench, line and room go one by one: the bench by value, as edits take it, and the others lent.
 pub(crate) fn tell_open(
     b: Bench,
     line: &[u8],
@@ -82,11 +86,10 @@ pub(crate) fn tell_open(
     requires { HexParts line.now o.bytes o.target }
     ensures { Answers b (ask_open matrix (bytes_of line.now o.bytes) (bytes_of line.now o.target) o.gates o.depth o.ands) out.old out.new result }
 {
-    let mut bytes = [0u8; HEX];
-    let mut target = [0u8; HEX];
-    let stored = lay(line, o.bytes, &mut bytes);
-    let wanted = lay(line, o.target, &mut target);
-    let done = open_with(b, matrix, &bytes[..stored], &target[..wanted], o);
+    let mut room = [0u8; HEX];
+    let (bytes, rest) = lay(line, o.bytes, &mut room);
+    let (target, _) = lay(line, o.target, rest);
+    let done = open_with(b, matrix, bytes, target, o);
     let len = say_opened(out, done.answer);
     Told {
         bench: done.bench,
@@ -163,7 +166,7 @@ fn store_in(b: Bench, size: usize, room: &mut [u8; STORED]) -> Result<usize, Ref
     store(b, &mut room[..lent])
 }
 
-// `store ROOM`. This, `build` and `late` share three lines: one function of them would take a closure over the room, whose contract is
+// `store ROOM`. This, `build`, `late` and `equations` share lines: one function of them would take a closure over the room, whose contract is
 // longer than those.
 pub(crate) fn tell_store(b: Bench, size: usize, out: &mut [u8; OUT]) -> Told
     ensures { Answers b (ask_store size) out.old out.new result }
@@ -179,10 +182,10 @@ fn build_in(line: &[u8], q: BuildCall, room: &mut [u8; STORED]) -> Result<usize,
     requires { HexPart line.now q.rows }
     ensures { WrittenFirst (build_answer q.n (bytes_of line.now q.rows) q.d q.room) (stored (built q.n (bytes_of line.now q.rows) q.d)) result room.new }
 {
-    let mut rows = [0u8; HEX];
-    let end = lay(line, q.rows, &mut rows);
+    let mut bytes = [0u8; HEX];
+    let (rows, _) = lay(line, q.rows, &mut bytes);
     let lent = q.room.min(STORED);
-    build(q.n, &rows[..end], q.d, &mut room[..lent])
+    build(q.n, rows, q.d, &mut room[..lent])
 }
 
 // `build N ROWSHEX D ROOM`.
@@ -201,20 +204,12 @@ fn late_in(line: &[u8], q: LateCall, room: &mut [u8; STORED]) -> Result<usize, R
     requires { HexThree line.now q.arrivals q.rows q.limits }
     ensures { WrittenFirst (late_answer q.n (bytes_of line.now q.arrivals) (bytes_of line.now q.rows) (bytes_of line.now q.limits) q.room) (stored (late_built q.n (bytes_of line.now q.arrivals) (bytes_of line.now q.rows) (bytes_of line.now q.limits))) result room.new }
 {
-    let mut arrivals = [0u8; HEX];
-    let mut rows = [0u8; HEX];
-    let mut limits = [0u8; HEX];
-    let come = lay(line, q.arrivals, &mut arrivals);
-    let end = lay(line, q.rows, &mut rows);
-    let most = lay(line, q.limits, &mut limits);
+    let mut bytes = [0u8; HEX];
+    let (arrivals, rest) = lay(line, q.arrivals, &mut bytes);
+    let (rows, more) = lay(line, q.rows, rest);
+    let (limits, _) = lay(line, q.limits, more);
     let lent = q.room.min(STORED);
-    build_late(
-        q.n,
-        &arrivals[..come],
-        &rows[..end],
-        &limits[..most],
-        &mut room[..lent],
-    )
+    build_late(q.n, arrivals, rows, limits, &mut room[..lent])
 }
 
 // `late N ARRIVALSHEX ROWSHEX LIMITSHEX ROOM`.
@@ -257,12 +252,10 @@ pub(crate) fn tell_distance(b: Bench, line: &[u8], q: DistanceCall, out: &mut [u
     requires { HexParts line.now q.masks q.depths }
     ensures { Answers b (ask_distance q.n (bytes_of line.now q.masks) (bytes_of line.now q.depths) q.target q.d) out.old out.new result }
 {
-    let mut masks = [0u8; HEX];
-    let mut depths = [0u8; HEX];
-    let masked = lay(line, q.masks, &mut masks);
-    let deep = lay(line, q.depths, &mut depths);
-    let found = distance(q.n, &masks[..masked], &depths[..deep], q.target, q.d);
-    let len = say_found(out, found);
+    let mut room = [0u8; HEX];
+    let (masks, rest) = lay(line, q.masks, &mut room);
+    let (depths, _) = lay(line, q.depths, rest);
+    let len = say_found(out, distance(q.n, masks, depths, q.target, q.d));
     Told { bench: b, len }
 }
 
@@ -275,10 +268,10 @@ fn draw_in(
     requires { HexPart line.now q.file }
     ensures { DrawsFirst (bytes_of line.now q.file) q.room result room.new }
 {
-    let mut file = [0u8; HEX];
-    let end = lay(line, q.file, &mut file);
+    let mut bytes = [0u8; HEX];
+    let (file, _) = lay(line, q.file, &mut bytes);
     let lent = q.room.min(STORED);
-    drawing::equations(&file[..end], &mut room[..lent])
+    drawing::equations(file, &mut room[..lent])
 }
 
 // `equations HEX ROOM`.

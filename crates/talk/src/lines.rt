@@ -15,6 +15,7 @@ use drawing::{BAD_NAME, BAD_TEXT, NO_OUTPUTS};
 use text::put_labelled;
 
 // A fixed line.
+// The bound on a name stands in five contracts: a struct for it would have that one field.
 pub(crate) fn say(out: &mut [u8; OUT], line: &[u8]) -> usize
     requires { length line.now ≤ 64 }
     ensures { Said out.old out.new result line.now }
@@ -72,6 +73,7 @@ pub(crate) fn say_report(out: &mut [u8; OUT], r: Report) -> usize
 }
 
 // What a report answers.
+// The two cases are written out here and below: a function of them would take what is said of `Ok` as a closure over the room.
 pub(crate) fn say_reported(out: &mut [u8; OUT], r: Result<Report, Refusal>) -> usize
     ensures { Said out.old out.new result (reported_text r) }
 {
@@ -121,6 +123,7 @@ pub(crate) fn say_edit(out: &mut [u8; OUT], e: Edit) -> usize
 
 // `stored COUNT HEX`, `built COUNT HEX` or `read COUNT HEX`, of what stands first in a room. No stored form has more than 1,341 bytes; the
 // test keeps to the answer's room on a bench that no calls yield.
+// Count and room and no slice: the count is said as it is.
 fn say_bytes(out: &mut [u8; OUT], name: &[u8], count: usize, room: &[u8; STORED]) -> usize
     requires { length name.now ≤ 64 }
     ensures { Said out.old out.new result (hex_line name.now count (take (min count stored_most) room.now)) }

@@ -29,6 +29,7 @@ fn row_fits(n: usize, mask: usize, constant: usize) -> bool
 }
 
 // What an edit brings, by the target's kind: a row over n inputs; or an entry for m outputs, beside which the constant is 0.
+// A flag beside the bytes and no enum: the bench has them so in C's layout.
 pub fn value_fits(only: bool, n: usize, m: usize, value: usize, constant: usize) -> bool
     ensures { result ≡ value_fits only n m value constant }
 {

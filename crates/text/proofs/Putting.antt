@@ -1,17 +1,17 @@
 -- Laws of putting text into a lent room, and of moving it to the front. Assumes nothing.
 use mathlib.Core.Path.{◌≡◌, ap, ◌∙◌, sym, subst}
 use mathlib.Core.Bool.{Bool, true, false, not, cond}
-use mathlib.Core.List.{List, [], ◌∷◌, ◌++◌, append_assoc, append-nil}
+use mathlib.Core.List.{List, [], ◌++◌, append_assoc, append-nil}
 use Prim.Native.Nat.{ℕ, ◌+◌, ◌≤◌, ◌<◌}
 use native.Mathlib.Omega.{arith}
 use native.Mathlib.Numerals.{add-one}
 use native.Mathlib.Nat.{add-zero}
 use lib.Dec.{leb}
 use borrow.Author.Tests.{le-leb, lt-leb, leb-true, leb-false, not-true, not-false}
-use lib.ListN.{length, get_or, take, drop, set, length-drop, length-append, take-append-drop}
-use lib.Seq.{paste, paste-suc, take-length, take-suc-set, drop-set-lt, take-suc, get_or-drop, drop-drop, take_at, drop-append-add, length-take-le}
+use lib.ListN.{length, get_or, take, drop, set, length-append, take-append-drop}
+use lib.Seq.{paste, paste-suc, take-length, drop-drop, take_at, drop-append-add, length-take-le}
 use Rattle.io.specs.Counts.{IsPrefixLen}
-use Rattle.text.specs.Putting.{Put, where_free, PutFree, fronted}
+use Rattle.text.specs.Putting.{Put, where_free, PutFree}
 
 -- one byte more of s stands in the room
 module _ (d : List ℕ) (at : ℕ) (s : List ℕ) (i : ℕ) where
@@ -100,39 +100,3 @@ module _ {before : List ℕ} {at size : ℕ} {s : List ℕ} where
 -- a count within a list
 pub counted : (n : ℕ) (xs : List ℕ) → n ≤ length xs → IsPrefixLen n xs
 counted n xs h = (h, sym (length-take-le n xs h))
-
--- ---- moving to the front
-
--- one byte more is moved
-pub front_next : (room₀ room : List ℕ) (from i : ℕ) → from + i < length room → length room ≡ length room₀
-    → take i room ≡ take i (drop from room₀) → drop i room ≡ drop i room₀
-    → take (i + 1) (set room i (get_or room (from + i) 0)) ≡ take (i + 1) (drop from room₀)
-front_next room₀ room from i h l t d =
-    let v = get_or room (from + i) 0 in
-    let n : i < length (drop from room₀) = omega (arith, length-drop from room₀) in
-    let e : i + from ≡ from + i = omega arith in
-    let g : v ≡ get_or room₀ (from + i) 0 =
-    ap (λ (k : ℕ). get_or room k 0) (sym e) ∙ sym (get_or-drop i room from 0) ∙ ap (λ (x : List ℕ). get_or x from 0) d
-    ∙ get_or-drop i room₀ from 0 ∙ ap (λ (k : ℕ). get_or room₀ k 0) e in
-    ap (λ (k : ℕ). take k (set room i v)) (add-one i)
-    ∙ take-suc-set room i v (omega arith)
-    ∙ ap (λ (x : List ℕ). x ++ (v ∷ [])) t
-    ∙ ap (λ (x : ℕ). take i (drop from room₀) ++ (x ∷ [])) (g ∙ sym (get_or-drop from room₀ i 0))
-    ∙ sym (take-suc (drop from room₀) i 0 n)
-    ∙ ap (λ (k : ℕ). take k (drop from room₀)) (sym (add-one i))
-
--- lists that are the same past m are the same past m + 1
-drop_more : (m : ℕ) (a b : List ℕ) → drop m a ≡ drop m b → drop (m + 1) a ≡ drop (m + 1) b
-drop_more m a b e = sym (drop-drop 1 m a) ∙ ap (drop 1) e ∙ drop-drop 1 m b
-
--- what is still to be moved stays
-pub rest_next : (room₀ room : List ℕ) (i v : ℕ) → drop i room ≡ drop i room₀ → drop (i + 1) (set room i v) ≡ drop (i + 1) room₀
-rest_next room₀ room i v d = drop-set-lt (i + 1) room i v (omega arith) ∙ drop_more i room room₀ d
-
--- all is moved
-pub front_done : (room₀ room : List ℕ) (from i n : ℕ) → i ≡ n → take i room ≡ take i (drop from room₀) → drop i room ≡ drop i room₀ → room ≡ fronted room₀ from n
-front_done room₀ room from i n e t d = sym (take-append-drop i room) ∙ (λ j. t j ++ d j) ∙ ap (fronted room₀ from) e
-
--- what is to be moved stands at the front already
-pub front_stays : (room : List ℕ) (from n : ℕ) → from ≡ 0 → room ≡ fronted room from n
-front_stays room from n e = sym (take-append-drop n room) ∙ ap (λ (k : ℕ). take n (drop k room) ++ drop n room) (sym e)

@@ -20,6 +20,7 @@ fn place_past<F: Fn(u8) -> bool>(s: &[u8], from: usize, passes: F) -> usize
     requires { F.IsAlwaysCallable passes }
     ensures { (test : ℕ → Bool) → IsTest (F.post passes) test → result ≡ from + leading test (drop from s.now) }
 {
+    // By number: the number is the answer, and `from` may stand past the end.
     for i in from..s.len() {
         if !passes(s[i]) {
             return i;
@@ -29,6 +30,7 @@ fn place_past<F: Fn(u8) -> bool>(s: &[u8], from: usize, passes: F) -> usize
 }
 
 // The place of the first c from `from` on, or the end.
+// The end and no Option: `find` and `skip` promise it, and `desk` reads on from there.
 pub fn find(s: &[u8], from: usize, c: u8) -> usize
     ensures { result ≡ from + up_to c (drop from s.now) }
 {
@@ -101,6 +103,8 @@ pub fn is_free(len: usize, at: usize, size: usize) -> bool
 }
 
 // Puts bytes at `at`, or nothing where they do not fit, and answers the next free place.
+// The next free place in both cases and no Option, here and below: `PutFree` promises it.
+// Room and place go side by side here too: see `put_name` of `listing` for what was tried.
 pub fn put(room: &mut [u8], at: usize, bytes: &[u8]) -> usize
     ensures { PutFree room.old at (length bytes.now) bytes.now room.new result }
 {
@@ -159,6 +163,7 @@ pub fn put_labelled(room: &mut [u8], at: usize, label: &[u8], x: usize) -> usize
         return at;
     }
     let next = put(room, at, label);
+    // (`as u64`: there is no `u64::from` of a usize.)
     put_decimal(room, next, x as u64)
 }
 
@@ -175,6 +180,7 @@ pub fn put_numbered(room: &mut [u8], at: usize, letter: u8, x: u8) -> usize
 }
 
 // Puts a space and a number below 65,536 at `at`, or nothing where fewer than 6 bytes are free.
+// Not `put_numbered`, whose promise is for numbers below 256 and 4 free bytes.
 fn put_spaced(room: &mut [u8], at: usize, x: u16) -> usize
     ensures { PutFree room.old at 6 (numbered 32 x) room.new result }
 {
@@ -236,6 +242,7 @@ pub fn put_unhex(room: &mut [u8], at: usize, digits: &[u8]) -> usize
     if !all_hex(digits) {
         return at;
     }
+    // By number: two digits are read for each byte.
     for i in 0..n {
         let a = nibble(digits[2 * i]).unwrap();
         let b = nibble(digits[2 * i + 1]).unwrap();
@@ -256,13 +263,12 @@ pub fn to_front(room: &mut [u8], from: usize, to: usize) -> usize
     if from == 0 {
         return n;
     }
-    for i in 0..n {
-        room[i] = room[from + i];
-    }
+    room.copy_within(from..end, 0);
     n
 }
 
 // Whether two texts are the same.
+// A function for `==`, since the definitions of `script` say `same_list`.
 #[tactic(auto, using(crate::proofs::Places::same_as))]
 pub fn same(a: &[u8], b: &[u8]) -> bool
     ensures { result ≡ same_list a.now b.now }

@@ -9,7 +9,7 @@ returns-in_err-book c =
     rw (p.1, p.2) (sketch_no _ _ c.in_err-book.ensures)
 
 pub returns-then-not-is_whole : goal.returns-then-not-is_whole
-returns-then-not-is_whole c = sketch_gap _ c.in_ok-book.book _ c.numbers-numbers.ensures _ c.is_whole.ensures c.if-not-is_whole.true ∙ sketch_on _ _ c.in_ok-book.ensures
+returns-then-not-is_whole c = sketch_gap _ c.in_ok-book.book _ c.numbers-numbers.ensures _ c.is_whole.ensures c.if-not-is_whole.true ∙ sketch_on _ _ _ c.in_ok-book.ensures
 
 pub returns : goal.returns
-returns c = sketch_whole _ c.in_ok-book.book _ c.numbers-numbers.ensures _ c.is_whole.ensures _ c.if-not-is_whole.false c.circuit_of.ensures ∙ sketch_on _ _ c.in_ok-book.ensures
+returns c = sketch_whole _ c.in_ok-book.book _ c.numbers-numbers.ensures _ c.is_whole.ensures _ c.if-not-is_whole.false c.circuit_of.ensures ∙ sketch_on _ _ _ c.in_ok-book.ensures

@@ -3,7 +3,7 @@ use mathlib.Core.Path.{◌≡◌, ap, ◌∙◌, sym}
 use Prim.Native.Nat.{ℕ, ◌+◌}
 use Rattle.std.specs.Prelude.{Some, None, Ok}
 use Rattle.distance.specs.Query.{bare_code}
-use Rattle.hint.specs.Hint.{Hinted, hint_numbers}
+use Rattle.hint.specs.Hint.{hint_numbers}
 use Rattle.hint.proofs.hint_no.Goals as goal
 
 pub returns-in-Ok-Some : goal.returns-in-Ok-Some
