@@ -143,14 +143,13 @@ pub fn set_limits(bench: Bench, gates: u8, depth: u8, ands: u8) -> Edited
     ensures { LimitsPromise bench (limits gates depth ands) result.edit result.bench }
 {
     if bench.is_standing() {
-        let next = Bench {
-            max_gates: u16::from(gates),
-            max_depth: u16::from(depth),
-            max_and_depth: u16::from(ands),
-            ..bench
-        };
+        // Three stores, and no `..bench`: that copies the bench field by field.
+        let mut c = bench;
+        c.max_gates = u16::from(gates);
+        c.max_depth = u16::from(depth);
+        c.max_and_depth = u16::from(ands);
         Edited {
-            bench: next,
+            bench: c,
             edit: Ok(NO_LINES),
         }
     } else {

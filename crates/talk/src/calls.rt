@@ -105,7 +105,9 @@ pub(crate) fn tell_report(b: Bench, out: &mut [u8; OUT]) -> Told
     Told { bench: b, len }
 }
 
-// An edit's answer, with the bench after it.
+// An edit's answer, with the bench after it. Laid into its callers: as a call of its own it is handed a copy of the bench and makes
+// another.
+#[inline(always)]
 fn told_edit(done: Edited, out: &mut [u8; OUT]) -> Told
     ensures { (result.bench ≡ done.bench) × Said out.old out.new result.len (edit_text done.edit) }
 {

@@ -12,8 +12,7 @@ use borrow.Author.Tests.{ltb-true, lt-ltb, le-ltb}
 use lib.ListN.{length, get_or, take, drop, drop_of_length-le, length-append}
 use lib.Seq.{drop-cons, take-suc}
 use Rattle.io.specs.Digits.{last_digits, IsDigitCount}
-use Rattle.std.specs.Prelude.{Option, Some, None, SomeIff, IsSome}
-use Rattle.std.proofs.Common.{rules}
+use Rattle.std.specs.Prelude.{Option, Some, None, SomeIff, unwrap_or}
 use Rattle.std.specs.List.{list_all}
 use Rattle.text.specs.Numbers.{is_digit, num_from, number_in, nibble_of, is_hex_digit, all_hex, hex_bytes, bytes_said, hex_text, glyph_of, dec_text, decimal_text, numbered, numbers_text}
 use Rattle.text.proofs.Places.{both, and_cond}
@@ -71,10 +70,10 @@ all_digit [] i e h = absurd (omega arith)
 all_digit (x ∷ xs) zero e h = ltb-true _ _ (both _ e).0
 all_digit (x ∷ xs) (suc i) e h = all_digit xs i (both (ltb (nibble_of x) 16) e).1 (omega arith)
 
--- what `nibble` gives at a digit
-pub digit_some : (r : Option ℕ) (v : ℕ) → SomeIff r (v < 16) v → v < 16 → IsSome r
-digit_some None v h l = absurd (h l)
-digit_some (Some x) v h l = search rules
+-- what `nibble` gives at a digit, whatever stands by for a byte that is none
+pub digit_or : (r : Option ℕ) (v d : ℕ) → SomeIff r (v < 16) v → v < 16 → unwrap_or r d ≡ v
+digit_or None v d h l = absurd (h l)
+digit_or (Some x) v d h l = h.1
 
 -- digits all of which are hexadecimal
 pub bytes-said : (s : List ℕ) → all_hex s ≡ true → bytes_said s ≡ hex_bytes s

@@ -55,6 +55,8 @@ fn digit(x: u8) -> Option<u64>
 }
 
 // A decimal number, 0 to 2^64 - 1.
+// Not inlined, and the product tested before it is taken: laid into a long caller, a way out of the loop costs each turn.
+#[inline(never)]
 pub fn read_number(s: &[u8]) -> Option<u64>
     ensures { result ≡ number_in s.now }
 {
@@ -64,7 +66,10 @@ pub fn read_number(s: &[u8]) -> Option<u64>
     let mut acc: u64 = 0;
     for &x in s {
         let d = digit(x)?;
-        acc = acc.checked_mul(10)?.checked_add(d)?;
+        if u64::MAX / 10 < acc {
+            return None;
+        }
+        acc = (acc * 10).checked_add(d)?;
     }
     Some(acc)
 }
@@ -242,10 +247,10 @@ pub fn put_unhex(room: &mut [u8], at: usize, digits: &[u8]) -> usize
     if !all_hex(digits) {
         return at;
     }
-    // By number: two digits are read for each byte.
+    // By number: two digits are read for each byte. Each is one, so the 0 is not taken: with no way out, several bytes are put at a time.
     for i in 0..n {
-        let a = nibble(digits[2 * i]).unwrap();
-        let b = nibble(digits[2 * i + 1]).unwrap();
+        let a = nibble(digits[2 * i]).unwrap_or(0);
+        let b = nibble(digits[2 * i + 1]).unwrap_or(0);
         room[at + i] = a * 16 + b;
     }
     at + n
