@@ -3,8 +3,9 @@ use Rattle.std.specs.Prelude.{Ok, Err}
 use mathlib.Core.Path.{◌≡◌, refl, sym, ap, ◌∙◌, subst}
 use mathlib.Core.List.{List, ◌∷◌}
 use Prim.Native.Nat.{ℕ, ◌+◌, ◌/◌}
-use lib.ListN.{length}
+use lib.ListN.{length, replicate}
 use Rattle.circuit.specs.Rules.{done, answer_no}
+use Rattle.circuit.specs.Sizes.{most_lines}
 use Rattle.sweep.specs.Sweep.{swept}
 use Rattle.targets.specs.Target.{Brought}
 use Rattle.bench.specs.declared.Bench.{Bench}
@@ -51,6 +52,26 @@ accepted : (e : Edit) → answer_no e ≡ 0 → e ≡ Ok (listed_in e)
 accepted (Ok r) z = refl
 accepted (Err w) z = absurd (first.not-zero w z)
 
+-- no lines stand in an edit's numbers
+abbrev pub ListsNone : EditNumbers → Type 0
+ListsNone edit = (edit.count ≡ 0) × (edit.lines ≡ replicate most_lines 0)
+
+-- of a call that is an edit, that no lines stand in its numbers
+abbrev pub EditListsNone : {b next : Bench} {call : Call} → NumberStep b call next → Type 0
+EditListsNone (StepGiven.opened number small promise) = Unit {0}
+EditListsNone (StepGiven.replaced edit promise) = ListsNone edit
+EditListsNone (StepGiven.pointed edit promise) = ListsNone edit
+EditListsNone (StepGiven.changed edit promise) = ListsNone edit
+EditListsNone (StepGiven.limited edit small promise) = ListsNone edit
+EditListsNone (StepGiven.swept edit promise) = ListsNone edit
+EditListsNone (StepGiven.appended edit promise) = ListsNone edit
+EditListsNone (StepGiven.reported r promise) = Unit {0}
+EditListsNone (StepGiven.stored number out promise) = Unit {0}
+
+none_beside : (e : Edit) → (answer_no e ≡ 0 → ⊥) → ListsNone (edit_code e)
+none_beside (Ok r) some = absurd (some refl)
+none_beside (Err w) some = (refl, refl)
+
 module _ {b : Bench} {calls : List Call} (run : Runs empty_bench calls b) where
   -- A refused call changes nothing: the bench is as it was; the room of a store too (`store_numbered` in FirstDemand).
   pub refused_nothing : {call : Call} {next : Bench} (step : NumberStep b call next) → (refusal_in step ≡ 0 → ⊥) → next ≡ b
@@ -63,6 +84,29 @@ module _ {b : Bench} {calls : List Call} (run : Runs empty_bench calls b) where
   refused_nothing {next} (StepGiven.appended {kind} {x} {y} edit promise) some = (first.append-numbered run kind x y edit next promise).1 some
   refused_nothing (StepGiven.reported r promise) some = refl
   refused_nothing (StepGiven.stored number out promise) some = refl
+
+  -- the numbers of the definition's answer X, where it is refused
+  bare : (X : Present → Edit) (N : Present → Present) (edit : EditNumbers) (next : Bench) → ((p : Present) → Stands b p → (edit ≡ edit_code (X p)) × (next ≡ bench_of (N p)))
+      → (edit.refusal ≡ 0 → ⊥) → ListsNone edit
+  bare X N edit next h some =
+      let now = present_after calls in
+      let is = (h now (after-calls run)).0 in
+      subst ListsNone (sym is) (none_beside (X now) (λ z. some (ap (λ (e : EditNumbers). e.refusal) is ∙ z)))
+
+  -- A refused edit lists no lines.
+  pub refused_lists_none : {call : Call} {next : Bench} (step : NumberStep b call next) → (refusal_in step ≡ 0 → ⊥) → EditListsNone step
+  refused_lists_none (StepGiven.opened number small promise) some = tt
+  refused_lists_none {next} (StepGiven.replaced {k} {kind} {x} {y} edit promise) some =
+      bare (λ p. gate_edit p k kind x y) (λ p. after_gate p k kind x y) edit next promise some
+  refused_lists_none {next} (StepGiven.pointed {j} {line} edit promise) some =
+      bare (λ p. no_rework (output_edit_answer p j line)) (λ p. after_output p j line) edit next promise some
+  refused_lists_none {next} (StepGiven.changed {i} {value} {constant} edit promise) some =
+      bare (λ p. no_rework (entry_edit_answer p i value constant)) (λ p. after_entry p i value constant) edit next promise some
+  refused_lists_none {next} (StepGiven.limited {l} edit small promise) some = bare (λ p. no_rework (limits_answer p)) (λ p. after_limits p l) edit next promise some
+  refused_lists_none {next} (StepGiven.swept edit promise) some = bare sweep_edit after_sweep edit next promise some
+  refused_lists_none {next} (StepGiven.appended {kind} {x} {y} edit promise) some = bare (λ p. append_edit p kind x y) (λ p. after_append p kind x y) edit next promise some
+  refused_lists_none (StepGiven.reported r promise) some = tt
+  refused_lists_none (StepGiven.stored number out promise) some = tt
 
   -- The report's numbers are those of a first-time examination of what is present.
   pub report_is_first_time : (r : ReportNumbers) → ReportCodePromise b r → r ≡ reported_code (reported (present_after calls))

@@ -102,9 +102,9 @@ hint_no r = answer_no r
 
 -- a hint in numbers, as a query's answer is given
 abbrev pub hint_numbers : Hinted → FoundNumbers
-hint_numbers (Ok (Some f)) = record { code = f.gates; count = f.count; lines = f.lines }
-hint_numbers (Ok None) = bare_code 99
-hint_numbers (Err why) = bare_code (100 + refusal_no why)
+hint_numbers (Ok (Some f)) = record { code = hint_code (Ok (Some f.gates)); count = f.count; lines = f.lines }
+hint_numbers (Ok None) = bare_code (hint_code (Ok None))
+hint_numbers (Err why) = bare_code (hint_code (Err why))
 
 -- what the code promises of it
 abbrev pub HintCode : Bench → ℕ → ℕ → FoundNumbers → Type 0
