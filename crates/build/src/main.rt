@@ -48,12 +48,16 @@ fn answer(input: &[u8], out: &mut [u8; ROOM]) -> usize
     ensures put { Put out.old 0 (answer_text input.now) out.new result }
     ensures prefix_len { IsPrefixLen result out.new }
 {
-    if input.len() < 3 || input.len() != 3 + usize::from(input[1]) {
+    if input.len() < 3 {
         return listing::put_refused(out, Refusal::Length);
     }
-    let n = usize::from(input[0]);
-    let depth = usize::from(input[2]);
-    put_planned(out, builder::plan(n, &input[3..], depth))
+    if input.len() == 3 + usize::from(input[1]) {
+        let n = usize::from(input[0]);
+        let depth = usize::from(input[2]);
+        put_planned(out, builder::plan(n, &input[3..], depth))
+    } else {
+        listing::put_refused(out, Refusal::Length)
+    }
 }
 
 // As `main` of `equations`, with rooms of its own.
